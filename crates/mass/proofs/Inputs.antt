@@ -1,0 +1,55 @@
+-- Inputs in range lead to a last product that is finite, not negative and below 2 ^ 53: no product overflows, and none is a NaN. Assumes nothing.
+use Prim.Native.Nat.{ℕ}
+use mathlib.Core.Path.{_≡_}
+use mathlib.Core.Bool.{true, _&&_, false≢true}
+use lib.Dec.{lit≤}
+use lib.Ieee.{Float, ofInt, round}
+use Rattle.mass.specs.declared.Reading.{Reading}
+use Rattle.mass.specs.declared.Reading.the-variants.{WetPpm, DryPpm, WetPercent, DryPercent}
+use Rattle.mass.specs.declared.Setting.{Setting}
+use Rattle.mass.specs.Mass.{number, hundredth, zeroTo, aboveZeroTo, readingInRange, settingInRange, wetPpm, lastProduct}
+use Rattle.mass.specs.Bounded.{Bounded, bounded}
+use Rattle.mass.proofs.Ranges.{and-left, and-right, zero-to-bounded, above-zero-to-bounded}
+use Rattle.mass.proofs.Products.{times-bounded}
+
+-- ---- the ends of the ranges
+ppm-end : Bounded (number 200_000) 200_000
+unfolding ofInt
+ppm-end = bounded (λ s. absurd (false≢true s)) (lit≤ tt)
+
+percent-end : Bounded (number 20) 20
+unfolding ofInt
+percent-end = bounded (λ s. absurd (false≢true s)) (lit≤ tt)
+
+one-end : Bounded (number 1) 1
+unfolding ofInt
+one-end = bounded (λ s. absurd (false≢true s)) (lit≤ tt)
+
+u-end : Bounded hundredth 1
+unfolding round
+u-end = bounded (λ s. absurd (false≢true s)) (lit≤ tt)
+
+ppm-in-percent : Bounded (number 10_000) 10_000
+unfolding ofInt
+ppm-in-percent = bounded (λ s. absurd (false≢true s)) (lit≤ tt)
+
+-- ---- the products
+wet-bounded : (reading : Reading) (factor : Float) → readingInRange reading ≡ true → Bounded factor 1 → Bounded (wetPpm reading factor) 200_000
+unfolding readingInRange wetPpm
+wet-bounded (WetPpm x) factor h f = zero-to-bounded x ppm-end h
+wet-bounded (DryPpm x) factor h f = times-bounded (zero-to-bounded x ppm-end h) f (lit≤ tt)
+wet-bounded (WetPercent x) factor h f = times-bounded (zero-to-bounded x percent-end h) ppm-in-percent (lit≤ tt)
+wet-bounded (DryPercent x) factor h f =
+    times-bounded (times-bounded (zero-to-bounded x percent-end h) ppm-in-percent (lit≤ tt)) f (lit≤ tt)
+
+pub product-bounded : (scale : Float) (reading : Reading) (s : Setting) → Bounded scale 1_000_000 → readingInRange reading ≡ true → settingInRange s ≡ true → Bounded (lastProduct scale reading s) 200_000_000_000
+unfolding settingInRange lastProduct
+product-bounded scale reading s b r h =
+    let u-in = aboveZeroTo (s .u) hundredth in
+    let factor-in = aboveZeroTo (s .factor) (number 1) in
+    let flow-in = zeroTo (s .flow) (number 1) in
+    let pair : u-in && factor-in ≡ true = and-left (u-in && factor-in) flow-in h in
+    let u : Bounded (s .u) 1 = above-zero-to-bounded (s .u) u-end (and-left u-in factor-in pair) in
+    let factor : Bounded (s .factor) 1 = above-zero-to-bounded (s .factor) one-end (and-right u-in factor-in pair) in
+    let flow : Bounded (s .flow) 1 = zero-to-bounded (s .flow) one-end (and-right (u-in && factor-in) flow-in h) in
+    times-bounded (times-bounded (times-bounded u (wet-bounded reading (s .factor) r factor) (lit≤ tt)) flow (lit≤ tt)) b (lit≤ tt)

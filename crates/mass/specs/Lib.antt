@@ -1,0 +1,3 @@
+-- The definitions of the mass step.
+pub mod Mass
+pub mod Bounded
