@@ -29,12 +29,31 @@ u-end : Bounded hundredth 1
 unfolding round
 u-end = bounded (λ s. absurd (false≢true s)) (lit≤ tt)
 
-ppm-in-percent : Bounded (number 10_000) 10_000
+-- ---- the setting
+pub record SettingBounded (s : Setting) : Type 0 where
+  pub u : Bounded (s .u) 1
+  pub factor : Bounded (s .factor) 1
+  pub flow : Bounded (s .flow) 1
+
+pub setting-bounded : (s : Setting) → settingInRange s ≡ true → SettingBounded s
+unfolding settingInRange
+setting-bounded s h =
+    let u-in = aboveZeroTo (s .u) hundredth in
+    let factor-in = aboveZeroTo (s .factor) (number 1) in
+    let flow-in = zeroTo (s .flow) (number 1) in
+    let pair : u-in && factor-in ≡ true = and-left (u-in && factor-in) flow-in h in
+    record {
+      u = above-zero-to-bounded (s .u) u-end (and-left u-in factor-in pair);
+      factor = above-zero-to-bounded (s .factor) one-end (and-right u-in factor-in pair);
+      flow = zero-to-bounded (s .flow) one-end (and-right (u-in && factor-in) flow-in h);
+    }
+
+-- ---- the products
+pub ppm-in-percent : Bounded (number 10_000) 10_000
 unfolding ofInt
 ppm-in-percent = bounded (λ s. absurd (false≢true s)) (lit≤ tt)
 
--- ---- the products
-wet-bounded : (reading : Reading) (factor : Float) → readingInRange reading ≡ true → Bounded factor 1 → Bounded (wetPpm reading factor) 200_000
+pub wet-bounded : (reading : Reading) (factor : Float) → readingInRange reading ≡ true → Bounded factor 1 → Bounded (wetPpm reading factor) 200_000
 unfolding readingInRange wetPpm
 wet-bounded (WetPpm x) factor h f = zero-to-bounded x ppm-end h
 wet-bounded (DryPpm x) factor h f = times-bounded (zero-to-bounded x ppm-end h) f (lit≤ tt)
@@ -43,13 +62,8 @@ wet-bounded (DryPercent x) factor h f =
     times-bounded (times-bounded (zero-to-bounded x percent-end h) ppm-in-percent (lit≤ tt)) f (lit≤ tt)
 
 pub product-bounded : (scale : Float) (reading : Reading) (s : Setting) → Bounded scale 1_000_000 → readingInRange reading ≡ true → settingInRange s ≡ true → Bounded (lastProduct scale reading s) 200_000_000_000
-unfolding settingInRange lastProduct
+unfolding lastProduct
 product-bounded scale reading s b r h =
-    let u-in = aboveZeroTo (s .u) hundredth in
-    let factor-in = aboveZeroTo (s .factor) (number 1) in
-    let flow-in = zeroTo (s .flow) (number 1) in
-    let pair : u-in && factor-in ≡ true = and-left (u-in && factor-in) flow-in h in
-    let u : Bounded (s .u) 1 = above-zero-to-bounded (s .u) u-end (and-left u-in factor-in pair) in
-    let factor : Bounded (s .factor) 1 = above-zero-to-bounded (s .factor) one-end (and-right u-in factor-in pair) in
-    let flow : Bounded (s .flow) 1 = zero-to-bounded (s .flow) one-end (and-right (u-in && factor-in) flow-in h) in
-    times-bounded (times-bounded (times-bounded u (wet-bounded reading (s .factor) r factor) (lit≤ tt)) flow (lit≤ tt)) b (lit≤ tt)
+    let in-range = setting-bounded s h in
+    let wet = wet-bounded reading (s .factor) r (in-range .factor) in
+    times-bounded (times-bounded (times-bounded (in-range .u) wet (lit≤ tt)) (in-range .flow) (lit≤ tt)) b (lit≤ tt)

@@ -4,3 +4,4 @@ pub mod Products
 pub mod Inputs
 pub mod WholePart
 pub mod Answer
+pub mod Theorems

@@ -16,6 +16,7 @@ pub enum Reading {
 }
 
 // What the reading was taken at.
+#[repr(C)]
 pub struct Setting {
     pub u: f64, // above 0, at most 0.01
     pub factor: f64, // the dry-wet factor: above 0, at most 1

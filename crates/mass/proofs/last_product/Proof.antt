@@ -1,16 +1,12 @@
-use Rattle.mass.specs.Mass.{lastProduct}
+-- `mass::last_product` meets its contract: it makes the definition's products, in its order. Assumes nothing.
 use borrow.Author.Needs.{needs}
+use Rattle.mass.specs.Mass.{lastProduct}
 use Rattle.mass.proofs.last_product.Statement.{statement}
 use Rattle.mass.proofs.last_product.Tie as tie
-use Rattle.mass.proofs.last_product.Reads as reads
-use Rattle.mass.proofs.last_product.Lts as lts
-use Rattle.mass.proofs.wet_ppm.Reads as wet-ppm-reads
 
--- src/lib.rt:129:9
 wet-ppm-requires : tie.Need-wet-ppm-requires
 wet-ppm-requires c κs = search needs
 
--- src/lib.rt:126:1
 returns : tie.Need-returns
 unfolding lastProduct
 returns c = cc

@@ -2,16 +2,14 @@
 -- `whole_part` can read it (`proofs/Inputs.antt`). Assumes nothing.
 use mathlib.Core.Path.{_≡_, sym, _∙_}
 use mathlib.Core.Bool.{true}
+use native.Mathlib.Omega.{arith}
 use borrow.Author.Needs.{needs}
 use borrow.Author.Tests.{not-true, not-false}
-use native.Mathlib.Omega.{arith}
 use Rattle.mass.specs.Mass.{readingInRange, settingInRange, wholePart, lastProduct}
 use Rattle.mass.proofs.Answer.{bad-reading, bad-setting, whole-mass, too-large}
 use Rattle.mass.proofs.Inputs.{product-bounded}
 use Rattle.mass.proofs.mass_of.Statement.{statement}
 use Rattle.mass.proofs.mass_of.Tie as tie
-use Rattle.mass.proofs.mass_of.Reads as reads
-use Rattle.mass.proofs.mass_of.Lts as lts
 
 -- where the first test is passed the reading is in range, and where the second is, the setting
 reading-in : (c : tie.Else1) → readingInRange (c .before .before .args .reading) ≡ true

@@ -1,7 +1,6 @@
 -- `mass::whole_part` meets its contract: below 1 there is no whole part, and from 1 up it is what the bits say (`proofs/WholePart.antt`).
 -- Assumes nothing.
-use Prim.Native.Nat.{_^_, _<_}
-use mathlib.Core.Path.{_≡_, refl, sym}
+use mathlib.Core.Path.{sym}
 use native.Mathlib.Omega.{arith}
 use lib.Dec.{lit≤}
 use lib.Ieee.{ofBits, toBits, binary64}
@@ -10,8 +9,6 @@ use Rattle.mass.proofs.Ranges.{bounded-no-nan}
 use Rattle.mass.proofs.WholePart.{WholeFromBits, under-one, from-one}
 use Rattle.mass.proofs.whole_part.Statement.{statement}
 use Rattle.mass.proofs.whole_part.Tie as tie
-use Rattle.mass.proofs.whole_part.Reads as reads
-use Rattle.mass.proofs.whole_part.Lts as lts
 
 bits-of : (c : tie.Else1) → WholeFromBits (toBits binary64 (c .before .args .x)) (wholePart (c .before .args .x))
 unfolding ofBits

@@ -1,13 +1,10 @@
+-- `mass::zero_to` meets its contract: its two comparisons are the definition's, and its 0.0 is the f64 zero. Assumes nothing.
 use mathlib.Core.Path.{refl}
 use lib.Ieee.{ofBits, ofInt}
 use Rattle.mass.specs.Mass.{zeroTo}
-use borrow.Author.Needs.{needs}
 use Rattle.mass.proofs.zero_to.Statement.{statement}
 use Rattle.mass.proofs.zero_to.Tie as tie
-use Rattle.mass.proofs.zero_to.Reads as reads
-use Rattle.mass.proofs.zero_to.Lts as lts
 
--- src/lib.rt:99:1
 returns : tie.Need-returns
 unfolding zeroTo ofBits ofInt
 returns c = refl

@@ -1,0 +1,2 @@
+-- The laws of what crosses to C.
+pub mod Crossing

@@ -1,0 +1,2 @@
+-- How the library's answers cross to C.
+pub mod Mass

@@ -1,0 +1,2 @@
+-- The definition of two-word numbers.
+pub mod Wide
