@@ -12,7 +12,7 @@ answer-requires c κs = search needs
 returns : tie.Need-returns
 returns c =
     let a = c .before .before .args in
-    rw (unknown-kind co2Mass (a .kind) (a .value) (a .setting) (c .before .if1 .taken)) (c .answer .ensures)
+    rw (unknown-kind co2Mass (a .kind) (a .value) (a .setting) (omega arith)) (c .answer .ensures)
 
 reading-requires : tie.Need-reading-requires
 reading-requires c κs = search needs

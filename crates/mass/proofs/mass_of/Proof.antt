@@ -55,12 +55,12 @@ cast-t11 c = omega arith
 returns-3 : tie.Need-returns-3
 returns-3 c =
     let a = c .before .before .before .before .before .before .before .args in
-    sym (whole-mass (a .scale) (a .limit) (a .reading) (a .setting) (reading-in (c .before .before .before .before .before)) (setting-in (c .before .before .before)) (is-whole (c .before)) (c .if3 .taken))
+    sym (whole-mass (a .scale) (a .limit) (a .reading) (a .setting) (reading-in (c .before .before .before .before .before)) (setting-in (c .before .before .before)) (is-whole (c .before)) (omega arith))
 
 returns-4 : tie.Need-returns-4
 returns-4 c =
     let a = c .before .before .before .before .before .before .before .args in
-    sym (too-large (a .scale) (a .limit) (a .reading) (a .setting) (reading-in (c .before .before .before .before .before)) (setting-in (c .before .before .before)) (is-whole (c .before)) (c .if3 .left))
+    sym (too-large (a .scale) (a .limit) (a .reading) (a .setting) (reading-in (c .before .before .before .before .before)) (setting-in (c .before .before .before)) (is-whole (c .before)) (omega arith))
 
 pub mass-of-spec : {M : Type 1} → statement M
 mass-of-spec =

@@ -10,13 +10,13 @@ use Rattle.mass.proofs.WholePart.{WholeFromBits, under-one, from-one}
 use Rattle.mass.proofs.whole_part.Statement.{statement}
 use Rattle.mass.proofs.whole_part.Tie as tie
 
-bits-of : (c : tie.Else1) → WholeFromBits (toBits binary64 (c .before .args .x)) (wholePart (c .before .args .x))
-unfolding ofBits
-bits-of c = from-one (c .before .pre) (lit≤ tt) (c .if1 .left)
-
 returns : tie.Need-returns
 unfolding ofBits
 returns c = sym (under-one (c .before .pre) (c .if1 .taken))
+
+bits-of : (c : tie.Else1) → WholeFromBits (toBits binary64 (c .before .args .x)) (wholePart (c .before .args .x))
+unfolding ofBits
+bits-of c = from-one (c .before .pre) (lit≤ tt) (c .if1 .left)
 
 float-to-bits-bits : tie.Need-float-to-bits-bits
 float-to-bits-bits c = bounded-no-nan (c .before .pre)
