@@ -1,13 +1,15 @@
 -- Inputs in range lead to a last product that is finite, not negative and below 2 ^ 53: no product overflows, and none is a NaN. Assumes nothing.
-use Prim.Native.Nat.{ℕ}
+use Prim.Native.Nat.{ℕ, _^_, _≤_}
 use mathlib.Core.Path.{_≡_}
 use mathlib.Core.Bool.{true, _&&_, false≢true}
+use native.Mathlib.Nat.{mul-one}
 use lib.Dec.{lit≤}
 use lib.Ieee.{Float, ofInt, round}
+use Rattle.base.proofs.Choice.{both-ways}
 use Rattle.mass.specs.declared.Reading.{Reading}
 use Rattle.mass.specs.declared.Reading.the-variants.{WetPpm, DryPpm, WetPercent, DryPercent}
 use Rattle.mass.specs.declared.Setting.{Setting}
-use Rattle.mass.specs.Mass.{number, hundredth, zeroTo, aboveZeroTo, readingInRange, settingInRange, wetPpm, lastProduct}
+use Rattle.mass.specs.Mass.{number, hundredth, zeroTo, aboveZeroTo, readingInRange, settingInRange, inPpm, isDry, wetPpm, lastProduct}
 use Rattle.mass.specs.Bounded.{Bounded, bounded}
 use Rattle.mass.proofs.Ranges.{and-left, and-right, zero-to-bounded, above-zero-to-bounded}
 use Rattle.mass.proofs.Products.{times-bounded}
@@ -53,13 +55,20 @@ pub ppm-in-percent : Bounded (number 10_000) 10_000
 unfolding ofInt
 ppm-in-percent = bounded (λ s. absurd (false≢true s)) (lit≤ tt)
 
+ppm-bounded : (reading : Reading) → readingInRange reading ≡ true → Bounded (inPpm reading) 200_000
+unfolding readingInRange inPpm
+ppm-bounded (WetPpm x) h = zero-to-bounded x ppm-end h
+ppm-bounded (DryPpm x) h = zero-to-bounded x ppm-end h
+ppm-bounded (WetPercent x) h = times-bounded (zero-to-bounded x percent-end h) ppm-in-percent (lit≤ tt)
+ppm-bounded (DryPercent x) h = times-bounded (zero-to-bounded x percent-end h) ppm-in-percent (lit≤ tt)
+
+-- what bounds the concentration bounds it wet
+pub wet-at-most : (reading : Reading) (factor : Float) (top : ℕ) → top ≤ 2 ^ 53 → Bounded (inPpm reading) top → Bounded factor 1 → Bounded (wetPpm reading factor) top
+unfolding wetPpm
+wet-at-most reading factor top fine ppm f = both-ways (λ (x : Float). Bounded x top) (isDry reading) (rw mul-one at (times-bounded ppm f (rw mul-one fine))) ppm
+
 pub wet-bounded : (reading : Reading) (factor : Float) → readingInRange reading ≡ true → Bounded factor 1 → Bounded (wetPpm reading factor) 200_000
-unfolding readingInRange wetPpm
-wet-bounded (WetPpm x) factor h f = zero-to-bounded x ppm-end h
-wet-bounded (DryPpm x) factor h f = times-bounded (zero-to-bounded x ppm-end h) f (lit≤ tt)
-wet-bounded (WetPercent x) factor h f = times-bounded (zero-to-bounded x percent-end h) ppm-in-percent (lit≤ tt)
-wet-bounded (DryPercent x) factor h f =
-    times-bounded (times-bounded (zero-to-bounded x percent-end h) ppm-in-percent (lit≤ tt)) f (lit≤ tt)
+wet-bounded reading factor h f = wet-at-most reading factor 200_000 (lit≤ tt) (ppm-bounded reading h) f
 
 pub product-bounded : (scale : Float) (reading : Reading) (s : Setting) → Bounded scale 1_000_000 → readingInRange reading ≡ true → settingInRange s ≡ true → Bounded (lastProduct scale reading s) 200_000_000_000
 unfolding lastProduct

@@ -17,9 +17,9 @@ use Rattle.mass.specs.declared.Setting.{Setting}
 use Rattle.mass.specs.declared.Weighed.{Weighed}
 use Rattle.mass.specs.declared.Weighed.the-variants.{Mass, BadInput, TooLarge}
 use Rattle.mass.specs.Bounded.{Bounded, bounded}
-use Rattle.mass.specs.Mass.{zeroTo, aboveZeroTo, readingInRange, settingInRange, wetPpm, lastProduct, wholePart, massAnswer, co2Mass, noxMass, refusalOf, wholeMassOf}
+use Rattle.mass.specs.Mass.{zeroTo, aboveZeroTo, readingInRange, settingInRange, inPpm, isDry, wetPpm, lastProduct, wholePart, massAnswer, co2Mass, noxMass, refusalOf, wholeMassOf}
 use Rattle.mass.proofs.Products.{times-bounded}
-use Rattle.mass.proofs.Inputs.{SettingBounded, setting-bounded, ppm-in-percent, wet-bounded}
+use Rattle.mass.proofs.Inputs.{SettingBounded, setting-bounded, ppm-in-percent, wet-at-most, wet-bounded}
 use Rattle.mass.proofs.Answer.{whole-mass}
 
 -- ---- refused exactly when
@@ -128,18 +128,18 @@ zero-in-range (wet-percent false) = refl
 zero-in-range (dry-percent true) = refl
 zero-in-range (dry-percent false) = refl
 
-zero-wet : {reading : Reading} {factor : Float} → ZeroReading reading → Bounded factor 1 → Bounded (wetPpm reading factor) 0
-unfolding wetPpm
-zero-wet (wet-ppm sign) f = zero-bounded sign
-zero-wet (dry-ppm sign) f = times-bounded (zero-bounded sign) f (lit≤ tt)
-zero-wet (wet-percent sign) f = times-bounded (zero-bounded sign) ppm-in-percent (lit≤ tt)
-zero-wet (dry-percent sign) f = times-bounded (times-bounded (zero-bounded sign) ppm-in-percent (lit≤ tt)) f (lit≤ tt)
+zero-ppm : {reading : Reading} → ZeroReading reading → Bounded (inPpm reading) 0
+unfolding inPpm
+zero-ppm (wet-ppm sign) = zero-bounded sign
+zero-ppm (dry-ppm sign) = zero-bounded sign
+zero-ppm (wet-percent sign) = times-bounded (zero-bounded sign) ppm-in-percent (lit≤ tt)
+zero-ppm (dry-percent sign) = times-bounded (zero-bounded sign) ppm-in-percent (lit≤ tt)
 
 pub zero-reading : {scale : Float} (limit : ℕ) {reading : Reading} (s : Setting) → Bounded scale 1_000_000 → ZeroReading reading → settingInRange s ≡ true → massAnswer scale limit reading s ≡ Mass 0
 unfolding lastProduct
 zero-reading {scale} limit {reading} s b zero h =
     let in-range = setting-bounded s h in
-    let none = times-bounded (times-bounded (times-bounded (in-range .u) (zero-wet zero (in-range .factor)) (lit≤ tt)) (in-range .flow) (lit≤ tt)) b (lit≤ tt) in
+    let none = times-bounded (times-bounded (times-bounded (in-range .u) (wet-at-most reading (s .factor) 0 (lit≤ tt) (zero-ppm zero) (in-range .factor)) (lit≤ tt)) (in-range .flow) (lit≤ tt)) b (lit≤ tt) in
     whole-mass scale limit reading s (zero-in-range zero) h (sym (no-whole none)) (omega arith)
 
 pub zero-flow : {scale : Float} (limit : ℕ) (reading : Reading) (s : Setting) → Bounded scale 1_000_000 → (sign : Bool) → s .flow ≡ fin sign 0 (pos 0) → readingInRange reading ≡ true → settingInRange s ≡ true → massAnswer scale limit reading s ≡ Mass 0
@@ -153,5 +153,5 @@ zero-flow {scale} limit reading s b sign zero r h =
 
 -- ---- example (l): dry ppm 1,024, u 2^-10, factor 0.5, flow 0.125: 62 mg
 pub example-l : co2Mass (DryPpm (fin false 1 (pos 10))) (record { u = fin false 1 (negsuc 9); factor = fin false 1 (negsuc 0); flow = fin false 1 (negsuc 2) }) ≡ Mass 62
-unfolding co2Mass massAnswer readingInRange settingInRange zeroTo aboveZeroTo le lt eq ofInt round wetPpm lastProduct wholePart mul
+unfolding co2Mass massAnswer readingInRange settingInRange zeroTo aboveZeroTo le lt eq ofInt round inPpm isDry wetPpm lastProduct wholePart mul
 example-l = refl

@@ -1,6 +1,6 @@
 -- From concentration to mass (Appendix 4). Numbers are f64, and a product is rounded once, to the nearest f64 (IEEE 754).
 use Prim.Native.Nat.{ℕ, _*_, _/_}
-use mathlib.Core.Bool.{Bool, false, _&&_}
+use mathlib.Core.Bool.{Bool, true, false, _&&_}
 use lib.Dec.{leb}
 use lib.IntN.{pos}
 use lib.Ieee.{Float, nan, inf, fin, binary64, mul, le, lt, ofInt, round, up, down}
@@ -44,12 +44,22 @@ settingInRange s = aboveZeroTo (s .u) hundredth && aboveZeroTo (s .factor) (numb
 abbrev pub times : Float → Float → Float
 times = mul binary64
 
--- "In this order, one rounding each: percent times 10,000; dry times the factor;"
+-- "In this order, one rounding each: percent times 10,000;"
+unfoldable pub inPpm : Reading → Float
+inPpm (WetPpm x) = x
+inPpm (DryPpm x) = x
+inPpm (WetPercent x) = times x (number 10_000)
+inPpm (DryPercent x) = times x (number 10_000)
+
+unfoldable pub isDry : Reading → Bool
+isDry (WetPpm x) = false
+isDry (DryPpm x) = true
+isDry (WetPercent x) = false
+isDry (DryPercent x) = true
+
+-- "dry times the factor;"
 unfoldable pub wetPpm : Reading → Float → Float
-wetPpm (WetPpm x) factor = x
-wetPpm (DryPpm x) factor = times x factor
-wetPpm (WetPercent x) factor = times x (number 10_000)
-wetPpm (DryPercent x) factor = times (times x (number 10_000)) factor
+wetPpm reading factor = pick (isDry reading) (times (inPpm reading) factor) (inPpm reading)
 
 -- "u times that; times flow; times 1,000 for CO2 in mg or 1,000,000 for NOx in µg."
 unfoldable pub lastProduct : Float → Reading → Setting → Float
