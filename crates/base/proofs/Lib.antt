@@ -1,6 +1,8 @@
--- The laws of the words that every definition uses. Callers cite these and not the words' text.
+-- The laws of the words that every definition uses, of differences of numbers and of altitudes. Callers cite these and not the definitions' text.
 pub mod Choice
 pub mod Seconds
 pub mod Sums
 pub mod FirstBad
 pub mod Products
+pub mod Integers
+pub mod Altitude

@@ -7,7 +7,10 @@ pub mod refusal;
 pub mod state;
 
 ghost use mathlib.Core.Path.{_≡_};
-ghost use Rattle.base.specs.Second.{tooMany, stateKnown, speedInRange, co2InRange, noxInRange};
+ghost use Prim.Native.Nat.{_<_};
+ghost use lib.IntN.{pos};
+ghost use lib.ListN.{length, getD};
+ghost use Rattle.base.specs.Second.{tooMany, stateKnown, speedInRange, altitudeCode, co2InRange, noxInRange};
 ghost use Rattle.base.specs.Plan.{referenceInRange, curveInRange, toleranceInRange, planInRange};
 
 // What a trip is judged by, fixed before the drive.
@@ -76,6 +79,20 @@ pub fn speed_in_range(speed: u16) -> bool
     ensures { λ r. ⌜ r ≡ speedInRange speed ⌝ }
 {
     speed <= limits::SPEED
+}
+
+// The altitude of second i as a number from 0 up: 1 at the lowest altitude, one more for each cm
+// above it, and 0 where it is out of range.
+pub fn altitude_code(altitudes: &[i32], i: usize) -> u32
+    requires { ⌜ i < length (now altitudes) ⌝ }
+    ensures { λ r. ⌜ r ≡ altitudeCode (getD (now (altitudes .entry)) i (pos 0)) ⌝ }
+{
+    let altitude = altitudes[i];
+    if (limits::ALTITUDE_LOWEST <= altitude) & (altitude <= limits::ALTITUDE_HIGHEST) {
+        (altitude - limits::ALTITUDE_LOWEST) as u32 + 1
+    } else {
+        0
+    }
 }
 
 // Whether a CO2 mass, in mg in the second, is in its range.

@@ -1,4 +1,4 @@
--- `base::plan_in_range` meets its contract: it is the conjunction of the tests that it calls. Assumes nothing.
+-- `base::plan_in_range` meets its contract: its tests are those of the definition, in the same order. Assumes nothing.
 use borrow.Author.Needs.{needs}
 use Rattle.base.specs.Plan.{planInRange}
 use Rattle.base.proofs.plan_in_range.Statement.{statement}
