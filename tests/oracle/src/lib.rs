@@ -1,0 +1,21 @@
+//! The independent program: the rules of the paper in plain loops, written from its text alone.
+//!
+//! It judges the product, so it is made to be read beside the paper. Modules stand in the paper's
+//! order. A figure is an `i128`; arithmetic that would overflow stops the program instead of
+//! wrapping (`overflow-checks`). A call that refuses gives a [`Refusal`] and has written nothing; a
+//! call that accepts has written only the places its comment names.
+
+pub mod climb;
+pub mod dynamics;
+pub mod item;
+pub mod mass;
+pub mod natural;
+pub mod numbers;
+pub mod reasons;
+pub mod report;
+pub mod second;
+pub mod stream;
+pub mod trip;
+pub mod windows;
+
+pub use numbers::{Plan, Refusal};

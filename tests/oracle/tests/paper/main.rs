@@ -1,0 +1,17 @@
+//! The paper's sentences, tried on the independent program.
+
+mod build;
+mod climb;
+mod dynamics;
+mod examples;
+mod item;
+mod mass;
+mod natural;
+mod numbers;
+mod printed;
+mod random;
+mod reasons;
+mod stream;
+mod sweep;
+mod trip;
+mod windows;
