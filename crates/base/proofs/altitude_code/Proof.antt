@@ -67,6 +67,12 @@ mul-altitude c = search needs
 shared-slice-copy-out-altitude : tie.Need-shared-slice-copy-out-altitude
 shared-slice-copy-out-altitude c = search needs
 
+returns-2 : tie.Need-returns-2
+returns-2 c = outside (altitude (c .before)) (c .before .altitude .given) (c .if1 .left)
+
+returns : tie.Need-returns
+returns c = inside (altitude (c .before)) (c .before .altitude .given) (c .if1 .taken)
+
 sub-result : tie.Need-sub-result
 sub-result c = subtracts (altitude (c .before)) (c .before .altitude .given) (c .if1 .taken)
 
@@ -75,12 +81,6 @@ cast-result c = casts (altitude (c .before)) (c .before .altitude .given) (c .if
 
 add-result : tie.Need-add-result
 add-result c = adds (altitude (c .before)) (c .before .altitude .given) (c .if1 .taken)
-
-returns : tie.Need-returns
-returns c = inside (altitude (c .before)) (c .before .altitude .given) (c .if1 .taken)
-
-returns-2 : tie.Need-returns-2
-returns-2 c = outside (altitude (c .before)) (c .before .altitude .given) (c .if1 .left)
 
 pub altitude-code-spec : {M : Type 1} → statement M
 altitude-code-spec =
