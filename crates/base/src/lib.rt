@@ -14,6 +14,7 @@ ghost use Rattle.base.specs.Second.{tooMany, stateKnown, speedInRange, a
 ghost use Rattle.base.specs.Plan.{referenceInRange, curveInRange, toleranceInRange, planInRange};
 
 // What a trip is judged by, fixed before the drive.
+#[repr(C)]
 pub struct Plan {
     pub reference: u32, // reference CO2 mass, mg: half the laboratory cycle's
     pub e1: u32, // curve value E1, mg/km

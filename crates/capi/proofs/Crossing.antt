@@ -7,7 +7,7 @@ use Rattle.mass.specs.declared.Reading.{Reading}
 use Rattle.mass.specs.declared.Setting.{Setting}
 use Rattle.mass.specs.declared.Weighed.{Weighed}
 use Rattle.mass.specs.declared.Weighed.the-variants.{BadInput}
-use Rattle.capi.specs.Mass.{readingOf, massAcross}
+use Rattle.capi.specs.Concentration.{readingOf, massAcross}
 
 module _ (mass : Reading → Setting → Weighed) (kind : ℕ) (value : Float) (setting : Setting) where
   pub unknown-kind : 3 < kind → massAcross mass kind value setting ≡ BadInput

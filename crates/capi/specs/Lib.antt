@@ -1,2 +1,4 @@
 -- How the library's answers cross to C.
-pub mod Mass
+pub mod Concentration
+pub mod Streams
+pub mod Accelerations

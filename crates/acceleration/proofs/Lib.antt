@@ -1,0 +1,7 @@
+-- The laws of D and of the products.
+pub mod Neighbours
+pub mod Rise
+pub mod Writing
+pub mod Refusals
+pub mod Theorems
+pub mod Examples

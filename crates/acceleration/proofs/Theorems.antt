@@ -1,0 +1,91 @@
+-- What D of one second amounts to: refused exactly when, what each case of the answer says, determined. Assumes nothing.
+use Prim.Native.Nat.{ℕ, _≤_, _<_}
+use mathlib.Core.Path.{_≡_, refl, sym, _∙_}
+use mathlib.Core.Bool.{Bool, true, false, not, _||_, or-true}
+use mathlib.Core.Logic.{_⊎_, inl, inr}
+use borrow.Author.Tests.{ltb-true, ltb-false, leb-true, leb-false, lt-ltb, le-ltb, le-leb, lt-leb, eq-eqb}
+use lib.Dec.{leb, ltb}
+use lib.IntN.{ℤ, pos, negsuc}
+use lib.ListN.{getD}
+use Rattle.base.specs.Limits.{tripLimit}
+use Rattle.base.specs.Second.{tooMany}
+use Rattle.base.specs.Words.{pick}
+use Rattle.second.specs.declared.Fault.{Fault}
+use Rattle.second.specs.Lanes.{Lanes, secondsIn, lanesAgree, SameLengths, hasValues, firstBadSecond, noneHasValues}
+use Rattle.second.proofs.Lanes.{agree, agrees, not-agree, none-each, each-none}
+use Rattle.acceleration.specs.declared.Acceleration.{Acceleration}
+use Rattle.acceleration.specs.declared.Acceleration.the-variants.{Rising, Falling, None, Refused}
+use Rattle.acceleration.specs.D.{dOf, hasD, numbered, fault, faultOf, accelerationOf, refusalOf, valueOf}
+
+module _ (trip : Lanes) (i : ℕ) where
+  abbrev n : ℕ
+  n = secondsIn trip
+
+  abbrev bad : ℕ
+  bad = firstBadSecond trip
+
+  -- no second in state 1 or 3
+  abbrev NoneHasValues : Type 0
+  NoneHasValues = (k : ℕ) → k < n → hasValues (getD (trip .states) k 0) ≡ false
+
+  -- what may be refused, each with its number, its place and what holds then, in the order 1, 2, 3, 4
+  pub data Outcome : Fault → Type 0 where
+    lanes-differ : (SameLengths trip → ⊥) → Outcome (fault 1 0)
+    too-many : SameLengths trip → tripLimit < n → Outcome (fault 2 0)
+    out-of-range : SameLengths trip → n ≤ tripLimit → bad < n → Outcome (fault 3 bad)
+    no-second : SameLengths trip → n ≤ tripLimit → n ≤ bad → NoneHasValues ⊎ (n ≤ i) → Outcome (fault 4 0)
+    fine : SameLengths trip → n ≤ tripLimit → n ≤ bad → noneHasValues (trip .states) ≡ false → i < n → Outcome (fault 0 0)
+
+  -- one of them holds, with the fault that is given
+  pub outcome : Outcome (faultOf trip i)
+  unfolding faultOf
+  outcome = go (lanesAgree trip) refl (tooMany n) refl (ltb bad n) refl (noneHasValues (trip .states)) refl (leb n i) refl
+    where
+      go : (t₁ : Bool) → lanesAgree trip ≡ t₁ → (t₂ : Bool) → tooMany n ≡ t₂ → (t₃ : Bool) → ltb bad n ≡ t₃ → (t₄ : Bool) → noneHasValues (trip .states) ≡ t₄ → (t₅ : Bool) → leb n i ≡ t₅ → Outcome (pick (not t₁) (fault 1 0) (pick t₂ (fault 2 0) (pick t₃ (fault 3 bad) (pick (t₄ || t₅) (fault 4 0) (fault 0 0)))))
+      go false e₁ t₂ e₂ t₃ e₃ t₄ e₄ t₅ e₅ = lanes-differ (not-agree trip e₁)
+      go true e₁ true e₂ t₃ e₃ t₄ e₄ t₅ e₅ = too-many (agree trip e₁) (ltb-true tripLimit n e₂)
+      go true e₁ false e₂ true e₃ t₄ e₄ t₅ e₅ = out-of-range (agree trip e₁) (ltb-false tripLimit n e₂) (ltb-true bad n e₃)
+      go true e₁ false e₂ false e₃ true e₄ t₅ e₅ = no-second (agree trip e₁) (ltb-false tripLimit n e₂) (ltb-false bad n e₃) (inl (none-each (trip .states) e₄))
+      go true e₁ false e₂ false e₃ false e₄ true e₅ = no-second (agree trip e₁) (ltb-false tripLimit n e₂) (ltb-false bad n e₃) (inr (leb-true n i e₅))
+      go true e₁ false e₂ false e₃ false e₄ false e₅ = fine (agree trip e₁) (ltb-false tripLimit n e₂) (ltb-false bad n e₃) e₄ (leb-false n i e₅)
+
+  -- and no other: each is given whenever what it says holds
+  pub only : {f : Fault} → Outcome f → faultOf trip i ≡ f
+  unfolding faultOf
+  only (lanes-differ differ) = go (lanesAgree trip) refl
+    where
+      go : (t : Bool) → lanesAgree trip ≡ t → pick (not (lanesAgree trip)) (fault 1 0) (pick (tooMany n) (fault 2 0) (pick (ltb bad n) (fault 3 bad) (pick (noneHasValues (trip .states) || leb n i) (fault 4 0) (fault 0 0)))) ≡ fault 1 0
+      go false e = rw e refl
+      go true e = absurd (differ (agree trip e))
+  only (too-many same h) = rw (agrees trip same, lt-ltb tripLimit n h) refl
+  only (out-of-range same few h) = rw (agrees trip same, le-ltb tripLimit n few, lt-ltb bad n h) refl
+  only (no-second same few good (inl none)) = rw (agrees trip same, le-ltb tripLimit n few, le-ltb bad n good, each-none (trip .states) none) refl
+  only (no-second same few good (inr past)) = rw (agrees trip same, le-ltb tripLimit n few, le-ltb bad n good, le-leb n i past, or-true (noneHasValues (trip .states))) refl
+  only (fine same few good some inside) = rw (agrees trip same, le-ltb tripLimit n few, le-ltb bad n good, some, lt-leb n i inside) refl
+
+  -- accepted: D where the second has one, and that it has none where it has not
+  pub accepted-has : faultOf trip i .number ≡ 0 → hasD (trip .states) i ≡ true → accelerationOf trip i ≡ numbered (dOf (trip .speeds) i)
+  unfolding accelerationOf
+  accepted-has h has = rw (eq-eqb (faultOf trip i .number) 0 h, has) refl
+
+  pub accepted-none : faultOf trip i .number ≡ 0 → hasD (trip .states) i ≡ false → accelerationOf trip i ≡ None
+  unfolding accelerationOf
+  accepted-none h none = rw (eq-eqb (faultOf trip i .number) 0 h, none) refl
+
+-- the case of a number says that number
+pub number-of : (z : ℤ) → valueOf (numbered z) ≡ z
+unfolding valueOf numbered
+number-of (pos d) = refl
+number-of (negsuc d) = refl
+
+-- a refusal has no D
+pub refused-no-d : (answer : Acceleration) → (refusalOf answer ≡ 0 → ⊥) → valueOf answer ≡ pos 0
+unfolding refusalOf valueOf
+refused-no-d (Rising d) h = absurd (h refl)
+refused-no-d (Falling d) h = absurd (h refl)
+refused-no-d None h = absurd (h refl)
+refused-no-d (Refused f) h = refl
+
+-- two results that the contract allows coincide
+pub determined : {meaning r r′ : Acceleration} → r ≡ meaning → r′ ≡ meaning → r ≡ r′
+determined p q = p ∙ sym q

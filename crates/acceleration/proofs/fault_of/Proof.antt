@@ -1,0 +1,71 @@
+-- `acceleration::fault_of` meets its contract: its tests are those of the definition, in the same order. Assumes nothing.
+use borrow.Author.Needs.{needs}
+use mathlib.Core.Path.{_≡_, sym, _∙_, refl}
+use mathlib.Core.Bool.{true, false}
+use borrow.Author.Tests.{not-true, not-false, lt-ltb, le-ltb}
+use lib.Dec.{ltb}
+use Rattle.base.specs.Second.{tooMany}
+use Rattle.second.specs.Lanes.{Lanes, lanesOf, secondsIn, lanesAgree, firstBadSecond}
+use Rattle.second.proofs.Lanes.{agree}
+use Rattle.acceleration.specs.D.{faultOf}
+use Rattle.acceleration.proofs.fault_of.Statement.{statement}
+use Rattle.acceleration.proofs.fault_of.Tie as tie
+
+abbrev trip : tie.Start → Lanes
+trip c = lanesOf (c .args .states .now) (c .args .speeds .now) (c .args .altitudes .now) (c .args .co2 .now) (c .args .nox .now)
+
+-- what passed each test
+agrees : (c : tie.Else1) → lanesAgree (trip (c .before .before .before .before .before .before)) ≡ true
+agrees c = sym (c .before .lanes-agree .ensures) ∙ not-false (c .before .lanes-agree .result) (c .if1 .left)
+
+few : (c : tie.Else2) → tooMany (secondsIn (trip (c .before .before .before .before .before .before .before .before))) ≡ false
+few c = sym (c .before .too-many .ensures) ∙ c .if2 .left
+
+all-good : (c : tie.Else3) → ltb (firstBadSecond (trip (c .before .before .before .before .before .before .before .before .before .before))) (secondsIn (trip (c .before .before .before .before .before .before .before .before .before .before))) ≡ false
+all-good c = rw (sym (c .before .first-bad .ensures)) (le-ltb _ _ (c .if3 .left))
+
+lanes-agree-requires : tie.Need-lanes-agree-requires
+lanes-agree-requires c κs = search needs
+
+returns : tie.Need-returns
+unfolding faultOf
+returns c = rw (sym (c .before .lanes-agree .ensures) ∙ not-true (c .before .lanes-agree .result) (c .if1 .taken)) refl
+
+too-many-requires : tie.Need-too-many-requires
+too-many-requires c κs = search needs
+
+returns-2 : tie.Need-returns-2
+unfolding faultOf
+returns-2 c = rw (agrees (c .before .before), sym (c .before .too-many .ensures) ∙ c .if2 .taken) refl
+
+first-bad-requires : tie.Need-first-bad-requires
+first-bad-requires c κs = agree _ (agrees (c .before .before))
+
+returns-3 : tie.Need-returns-3
+unfolding faultOf
+returns-3 c = rw (agrees (c .before .before .before .before), few (c .before .before), sym (c .before .first-bad .ensures), lt-ltb _ _ (c .if3 .taken)) refl
+
+none-has-values-requires : tie.Need-none-has-values-requires
+none-has-values-requires c κs = search needs
+
+returns-4 : tie.Need-returns-4
+unfolding faultOf
+returns-4 c = rw (agrees (c .before .before .before .before .before .before), few (c .before .before .before .before), all-good (c .before .before), sym (c .before .none-has-values .ensures), c .if4 .taken) refl
+
+returns-5 : tie.Need-returns-5
+unfolding faultOf
+returns-5 c = rw (agrees (c .before .before .before .before .before .before), few (c .before .before .before .before), all-good (c .before .before), sym (c .before .none-has-values .ensures), c .if4 .left) refl
+
+pub fault-of-spec : {M : Type 1} → statement M
+fault-of-spec =
+    tie.close
+    (tie.spec
+    lanes-agree-requires
+    returns
+    too-many-requires
+    returns-2
+    first-bad-requires
+    returns-3
+    none-has-values-requires
+    returns-4
+    returns-5)

@@ -1,0 +1,3 @@
+-- The definitions of D and of the products.
+pub mod D
+pub mod Products

@@ -1,0 +1,2 @@
+-- The laws of the bins of a trip.
+pub mod Joining

@@ -1,0 +1,2 @@
+-- The definitions of the bins of a trip.
+pub mod Bins

@@ -1,0 +1,3 @@
+-- The laws of altitudes and of the climb.
+pub mod Altitudes
+pub mod Examples

@@ -1,0 +1,3 @@
+-- The definitions of corrected altitude, climb, and the first and last altitude.
+pub mod Climb
+pub mod Ends

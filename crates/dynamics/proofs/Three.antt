@@ -1,0 +1,75 @@
+-- The three bins one after the other: there is room for each, and what they leave of the lane. Assumes nothing.
+use Prim.Native.Nat.{ℕ, _+_, _≤_}
+use mathlib.Core.Path.{_≡_, refl, sym, _∙_, ap}
+use mathlib.Core.List.{List, [], _∷_, _++_}
+use native.Mathlib.Omega.{arith}
+use lib.ListN.{length, drop, length-append}
+use Rattle.second.specs.Bins.{urban, rural, motorway}
+use Rattle.rank.specs.Sort.{sort}
+use Rattle.rank.proofs.Laws.{sort-length}
+use Rattle.acceleration.specs.Products.{SpeedLanes, productsOf}
+use Rattle.dynamics.specs.declared.Driven.{Driven}
+use Rattle.dynamics.specs.declared.Figures.{Figures}
+use Rattle.dynamics.specs.Dynamics.{DynamicsLanes, judged, binDynamics, placed, drivenIn, dynamicsOf, ranksOf}
+use Rattle.dynamics.proofs.Room.{room}
+use Rattle.dynamics.proofs.Places.{filled-long, filled-next}
+
+m-is : (bin : ℕ) (driven : Driven) (states speeds : List ℕ) {f : Figures} → f ≡ binDynamics bin driven states speeds → f .m ≡ length (productsOf bin states speeds)
+unfolding binDynamics judged
+m-is bin driven states speeds e = ap (λ f. f .m) e
+
+module _ (driven : List Driven) (states speeds ranks : List ℕ) (lanes : DynamicsLanes states speeds ranks) where
+  abbrev count : ℕ → ℕ
+  count bin = length (productsOf bin states speeds)
+
+  abbrev ranked : ℕ → List ℕ
+  ranked bin = sort (productsOf bin states speeds)
+
+  pub speed-lanes : SpeedLanes states speeds
+  speed-lanes = record { agree = lanes .agree; few = lanes .few }
+
+  ranked-long : (bin : ℕ) → length (ranked bin) ≡ count bin
+  ranked-long bin = sort-length (productsOf bin states speeds)
+
+  pub room-urban : 0 + count urban ≤ length ranks
+  room-urban = omega (arith, room states speeds, lanes .room)
+
+  module _ {u : Figures} {l : List ℕ} (e : u ≡ binDynamics urban (drivenIn driven urban) states speeds) (put : l ≡ placed 0 (ranked urban) ranks) where
+    after-urban : l ≡ ranked urban ++ drop (length (ranked urban)) ranks
+    after-urban = filled-next [] ranks {filled = ranks} refl (ranked urban) refl put
+
+    urban-is : u .m ≡ count urban
+    urban-is = m-is urban (drivenIn driven urban) states speeds e
+
+    pub room-rural : u .m + count rural ≤ length l
+    room-rural =
+        omega
+        (arith, urban-is, room states speeds, lanes .room, ranked-long urban, filled-long (ranked urban) ranks after-urban (omega (arith, ranked-long urban, room states speeds, lanes .room)))
+
+    module _ {r : Figures} {k : List ℕ} (e′ : r ≡ binDynamics rural (drivenIn driven rural) states speeds) (put′ : k ≡ placed (u .m) (ranked rural) l) where
+      after-rural : k ≡ (ranked urban ++ ranked rural) ++ drop (length (ranked urban ++ ranked rural)) ranks
+      after-rural = filled-next (ranked urban) ranks after-urban (ranked rural) (urban-is ∙ sym (ranked-long urban)) put′
+
+      both-is : u .m + r .m ≡ length (ranked urban ++ ranked rural)
+      both-is = omega (arith, urban-is, m-is rural (drivenIn driven rural) states speeds e′, length-append (ranked urban) (ranked rural), ranked-long urban, ranked-long rural)
+
+      both-are : length (ranked urban ++ ranked rural) ≡ count urban + count rural
+      both-are = omega (arith, length-append (ranked urban) (ranked rural), ranked-long urban, ranked-long rural)
+
+      pub room-motorway : u .m + r .m + count motorway ≤ length k
+      room-motorway =
+          omega
+          (arith, both-is, both-are, room states speeds, lanes .room, filled-long (ranked urban ++ ranked rural) ranks after-rural (omega (arith, both-are, room states speeds, lanes .room)))
+
+      module _ {m : Figures} {j : List ℕ} (e″ : m ≡ binDynamics motorway (drivenIn driven motorway) states speeds) (put″ : j ≡ placed (u .m + r .m) (ranked motorway) k) where
+        pub all-figures : u ∷ r ∷ m ∷ [] ≡ dynamicsOf driven states speeds
+        unfolding dynamicsOf
+        all-figures = rw (e, e′, e″) refl
+
+        all-long : length (ranked urban ++ ranked rural ++ ranked motorway) ≡ count urban + count rural + count motorway
+        all-long = omega (arith, length-append (ranked urban ++ ranked rural) (ranked motorway), both-are, ranked-long motorway)
+
+        pub all-ranked : j ≡ ranksOf states speeds ranks
+        unfolding ranksOf
+        all-ranked =
+            filled-next (ranked urban ++ ranked rural) ranks after-rural (ranked motorway) both-is put″ ∙ ap (λ (n : ℕ). ranked urban ++ ranked rural ++ ranked motorway ++ drop n ranks) all-long

@@ -1,0 +1,2 @@
+-- The definitions of the dynamics of a trip.
+pub mod Dynamics

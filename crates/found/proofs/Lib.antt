@@ -1,0 +1,3 @@
+-- The laws of finding windows.
+pub mod Ending
+pub mod Keeps

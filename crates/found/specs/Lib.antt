@@ -1,0 +1,3 @@
+-- The definitions of a trip's kept seconds and windows.
+pub mod Found
+pub mod Inside

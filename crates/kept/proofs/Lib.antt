@@ -1,0 +1,2 @@
+-- The laws of kept seconds.
+pub mod Keeping

@@ -1,0 +1,2 @@
+-- The definitions of kept seconds.
+pub mod Kept

@@ -1,0 +1,2 @@
+-- The law of the products' order.
+pub mod Order

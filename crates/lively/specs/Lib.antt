@@ -1,0 +1,2 @@
+-- The definitions of too lively and too dull.
+pub mod Lively

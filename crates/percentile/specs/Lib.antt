@@ -1,0 +1,2 @@
+-- The definitions of the percentile.
+pub mod Percentile

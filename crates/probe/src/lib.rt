@@ -1,0 +1,50 @@
+// Leaves that the product calls only with figures of a trip, opened to the tests with figures of any
+// size. It is no part of the library that is handed out.
+
+use base::Plan;
+
+// Whether a bin is too lively: S, N and Q of any size.
+#[no_mangle]
+pub extern "C" fn probe_too_lively(s: u32, n: u32, q: u64) -> bool {
+    lively::too_lively(s, n, q)
+}
+
+// Whether a bin is too dull: S, N and T of any size.
+#[no_mangle]
+pub extern "C" fn probe_too_dull(s: u32, n: u32, t: u64) -> bool {
+    lively::too_dull(s, n, t)
+}
+
+// A window judged.
+#[repr(C)]
+pub struct WindowProbe {
+    pub judged: bool, // whether the plan is in range and the window has seconds and moves
+    pub inside: bool,
+    pub class: usize, // 0 urban, 1 rural, 2 motorway, 3 none
+}
+
+// A window of any sum of speeds, mass and length.
+#[no_mangle]
+pub extern "C" fn probe_window(plan: Plan, s: u32, m: u32, n: usize) -> WindowProbe {
+    if !base::plan_in_range(plan) {
+        return NOT_JUDGED;
+    }
+    if s == 0 {
+        return NOT_JUDGED;
+    }
+    if n == 0 {
+        return NOT_JUDGED;
+    }
+    let figure = windows::judge(plan, s, m, n);
+    WindowProbe {
+        judged: true,
+        inside: figure.inside,
+        class: figure.class,
+    }
+}
+
+const NOT_JUDGED: WindowProbe = WindowProbe {
+    judged: false,
+    inside: false,
+    class: 0,
+};

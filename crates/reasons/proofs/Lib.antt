@@ -1,0 +1,5 @@
+-- The laws of the verdict.
+pub mod Masks
+pub mod Bits
+pub mod Says
+pub mod Laws

@@ -1,0 +1,120 @@
+-- Laws of writing: texts written one behind the other are their joined text, and a text that fits is written at the front. Assumes nothing.
+use Prim.Native.Nat.{ℕ, suc, _+_, _<_, _≤_}
+use mathlib.Core.Path.{_≡_, refl, sym, _∙_, ap}
+use mathlib.Core.Bool.{Bool, true, false}
+use mathlib.Core.List.{List, [], _∷_, _++_}
+use native.Mathlib.Nat.{add-zero, zero-add}
+use native.Mathlib.Numerals.{add-one}
+use native.Mathlib.Omega.{arith}
+use lib.Dec.{leb}
+use lib.ListN.{length, getD, drop, set, length-append, drop-of-length-le}
+use lib.Seq.{sets, sets-eq, length-sets, set-comm, drop-cons}
+use borrow.Author.Tests.{le-leb, lt-leb, leb-true, leb-false}
+use Rattle.base.specs.Words.{pick}
+use Rattle.report.specs.Lines.{lengthWritten, bufferWritten}
+use Rattle.report.specs.Steps.{Wrote}
+
+-- two texts stored one behind the other are their joined text stored
+pub sets-append : (xs ys l : List ℕ) (i : ℕ) → sets l i (xs ++ ys) ≡ sets (sets l i xs) (i + length xs) ys
+sets-append [] ys l i = rw (add-zero i) refl
+sets-append (x ∷ xs) ys l i =
+    let e : suc i + length xs ≡ i + suc (length xs) = omega arith in
+    sets-append xs ys (set l i x) (suc i) ∙ ap (λ (k : ℕ). sets (sets (set l i x) (suc i) xs) k ys) e
+
+-- a byte stored behind a text may as well be stored before it
+pub sets-past : (xs l : List ℕ) (i k a : ℕ) → i + length xs ≤ k → sets (set l k a) i xs ≡ set (sets l i xs) k a
+sets-past [] l i k a h = refl
+sets-past (x ∷ xs) l i k a h =
+    ap (λ (m : List ℕ). sets m (suc i) xs) (set-comm l k i a x (λ (e : k ≡ i). omega arith))
+    ∙ sets-past xs (set l i x) (suc i) k a (omega arith)
+
+-- storing what is left of a text from place i on: one byte, and what is left after it
+pub sets-step : (words l : List ℕ) (i k : ℕ) → i < length words → sets l k (drop i words) ≡ sets (set l k (getD words i 0)) (k + 1) (drop (i + 1) words)
+sets-step words l i k h = rw (add-one i, add-one k, drop-cons words i 0 h)
+
+-- and nothing at its end
+pub sets-end : (words l : List ℕ) (i k : ℕ) → length words ≤ i → sets l k (drop i words) ≡ l
+sets-end words l i k h = rw (drop-of-length-le words h)
+
+-- four bytes stored at their places are a text of four stored
+pub sets-four : (l : List ℕ) (k first second third fourth : ℕ) → set (set (set (set l k first) (k + 1) second) (k + 2) third) (k + 3) fourth ≡ sets l k (first ∷ second ∷ third ∷ fourth ∷ [])
+sets-four l k first second third fourth =
+    let one : k + 1 ≡ suc k = omega arith in
+    let two : k + 2 ≡ suc (suc k) = omega arith in
+    let three : k + 3 ≡ suc (suc (suc k)) = omega arith in
+    rw (one, two, three)
+
+-- one text and then another
+pub both-wrote : {b c d x y : List ℕ} {i j k : ℕ} → Wrote b i x c j → Wrote c j y d k → Wrote b i (x ++ y) d k
+both-wrote {b} {c} {d} {x} {y} {i} p q =
+    record {
+      stored = q .stored ∙ rw (p .stored, p .behind) (sym (sets-append x y b i));
+      behind = omega (arith, q .behind, p .behind, length-append x y);
+    }
+
+-- the room for two texts is room for the first
+pub room-first : (i n : ℕ) (x y : List ℕ) → i + length (x ++ y) ≤ n → i + length x ≤ n
+room-first i n x y h = omega (arith, length-append x y)
+
+-- and, when the first is written, for the second
+pub room-next : {b c x : List ℕ} {i j : ℕ} (y : List ℕ) → Wrote b i x c j → i + length (x ++ y) ≤ length b → j + length y ≤ length c
+room-next {b} {c} {x} {i} y p h = rw (p .stored, p .behind, length-sets b i x) (omega (arith, length-append x y))
+
+-- the same of three texts
+module _ (x y z b : List ℕ) (i : ℕ) (room : i + length (x ++ y ++ z) ≤ length b) where
+  pub room-one : i + length x ≤ length b
+  room-one = room-first i (length b) x y (room-first i (length b) (x ++ y) z room)
+
+  pub room-two : {c : List ℕ} {j : ℕ} → Wrote b i x c j → j + length y ≤ length c
+  room-two p = room-next y p (room-first i (length b) (x ++ y) z room)
+
+  pub room-three : {c d : List ℕ} {j k : ℕ} → Wrote b i x c j → Wrote c j y d k → k + length z ≤ length d
+  room-three p q = room-next z (both-wrote {x = x} {y = y} p q) room
+
+-- the buffer keeps its length
+pub wrote-same-length : {b x c : List ℕ} {i j : ℕ} → Wrote b i x c j → length c ≡ length b
+wrote-same-length {b} {x} {c} {i} w = ap length (w .stored) ∙ length-sets b i x
+
+-- a text that fits, written at the front
+pub fits-length : (text b : List ℕ) → length text ≤ length b → lengthWritten text b ≡ length text
+unfolding lengthWritten
+fits-length text b h = rw (le-leb (length text) (length b) h) refl
+
+pub fits-buffer : (text b : List ℕ) → length text ≤ length b → bufferWritten text b ≡ text ++ drop (length text) b
+unfolding bufferWritten
+fits-buffer text b h = rw (le-leb (length text) (length b) h) refl
+
+-- a text that does not
+pub short-length : (text b : List ℕ) → length b < length text → lengthWritten text b ≡ 0
+unfolding lengthWritten
+short-length text b h = rw (lt-leb (length text) (length b) h) refl
+
+pub short-buffer : (text b : List ℕ) → length b < length text → bufferWritten text b ≡ b
+unfolding bufferWritten
+short-buffer text b h = rw (lt-leb (length text) (length b) h) refl
+
+-- what the steps wrote from place 0 on is what the definition says
+pub wrote-length : {b text c : List ℕ} {r : ℕ} → Wrote b 0 text c r → length text ≤ length b → r ≡ lengthWritten text b
+wrote-length {b} {text} w h = omega (arith, w .behind, fits-length text b h)
+
+pub wrote-buffer : {b text c : List ℕ} {r : ℕ} → Wrote b 0 text c r → length text ≤ length b → c ≡ bufferWritten text b
+wrote-buffer {b} {text} w h =
+    w .stored ∙ sets-eq text b 0 (omega arith) ∙ rw (zero-add (length text), fits-buffer text b h) refl
+
+-- never more than the buffer holds
+pub written-within : (text b : List ℕ) → lengthWritten text b ≤ length b
+unfolding lengthWritten
+written-within text b = go (leb (length text) (length b)) refl
+  where
+    go : (t : Bool) → leb (length text) (length b) ≡ t → pick t (length text) 0 ≤ length b
+    go true q = leb-true (length text) (length b) q
+    go false q = omega arith
+
+-- no bytes written says that a text does not fit, unless it is empty
+pub zero-says-short : (text b : List ℕ) → 0 < length text → lengthWritten text b ≡ 0 → length b < length text
+unfolding lengthWritten
+zero-says-short text b some none = go (leb (length text) (length b)) refl none
+  where
+    go : (t : Bool) → leb (length text) (length b) ≡ t → pick t (length text) 0 ≡ 0 → length b < length text
+    go true q e = absurd (omega arith)
+    go false q e = leb-false (length text) (length b) q

@@ -1,0 +1,22 @@
+-- A lane that is written from the front: values, and behind them what was there before. Assumes nothing.
+use Prim.Native.Nat.{ℕ, suc, _+_, _≤_, _<_}
+use mathlib.Core.Path.{_≡_, refl, _∙_}
+use mathlib.Core.List.{List, [], _∷_, _++_, append-assoc}
+use native.Mathlib.Numerals.{add-one}
+use native.Mathlib.Omega.{arith}
+use lib.ListN.{length, take, drop, getD, set}
+use lib.Seq.{drop-cons, set-at, take-suc, length-take-le, take-all}
+
+-- one value more in front
+pub store-next : (front lane : List ℕ) (k x : ℕ) → length front ≡ k → k < length lane → set (front ++ drop k lane) k x ≡ (front ++ (x ∷ [])) ++ drop (k + 1) lane
+store-next front lane k x long h =
+    rw (drop-cons lane k 0 h, set-at front (getD lane k 0) (drop (suc k) lane) x k long, add-one, append-assoc) refl
+
+-- one value more of a list that is copied
+pub copy-next : (values lane : List ℕ) (i : ℕ) → i < length values → length values ≤ length lane → set (take i values ++ drop i lane) i (getD values i 0) ≡ take (i + 1) values ++ drop (i + 1) lane
+copy-next values lane i h room =
+    store-next (take i values) lane i (getD values i 0) (length-take-le i values (omega arith)) (omega arith) ∙ rw (add-one, take-suc values i 0 h) refl
+
+-- all of them
+pub copied : (values lane : List ℕ) (i : ℕ) → i ≡ length values → take i values ++ drop i lane ≡ values ++ drop (length values) lane
+copied values lane i end = rw (end, take-all (length values) values (omega arith)) refl

@@ -1,0 +1,3 @@
+-- The definitions of a second: its bin, the lanes of a trip, their ranges, and what is refused of them.
+pub mod Bins
+pub mod Lanes

@@ -1,0 +1,8 @@
+-- The laws of the numbers of refusal, of a stream's items, of the walk over them and of the lanes.
+pub mod Numbering
+pub mod Offsets
+pub mod Walking
+pub mod RowsAt
+pub mod Answers
+pub mod Lanes
+pub mod Writing

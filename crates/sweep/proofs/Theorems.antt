@@ -1,0 +1,147 @@
+-- What the definitions of the sweep amount to for its callers: refused exactly when, determined, resumed, run to its end. The laws of windows are in
+-- `Windows`, those of the machine in `Finished`. Assumes nothing.
+use Prim.Native.Nat.{ℕ, _+_, _≤_, _<_}
+use mathlib.Core.Path.{_≡_, refl, sym, _∙_, ap}
+use mathlib.Core.Bool.{true}
+use mathlib.Core.List.{List}
+use mathlib.Core.Logic.{_↔_}
+use native.Mathlib.Omega.{arith}
+use lib.Dec.{eqb, leb}
+use lib.ListN.{length, getD}
+use borrow.Author.Tests.{le-leb, leb-true}
+use Rattle.base.specs.Limits.{tripLimit, co2Most, referenceMost}
+use Rattle.base.specs.Plan.{referenceInRange}
+use Rattle.base.specs.Second.{co2InRange}
+use Rattle.base.specs.Refusal.{accepted}
+use Rattle.base.specs.Words.{pick, firstBad}
+use Rattle.base.proofs.FirstBad.{first-bad-is}
+use Rattle.sweep.specs.declared.SweepState.{SweepState}
+use Rattle.sweep.specs.declared.Swept.{Swept}
+use Rattle.sweep.specs.Sweep.{beginning, isOver, afterMoves, movesMade, endsAfter, placeOf, sweepRefusal, runAnswer, refusedAnswer, sweepAnswer, sweepEnds}
+use Rattle.sweep.specs.Window.{hasWindow, windowEnd, windows}
+use Rattle.sweep.proofs.Moves.{begins, stands-after}
+use Rattle.sweep.proofs.Reached.{both, moves-counted, stands-reached}
+use Rattle.sweep.proofs.Refusals.{Accepted, Outcome, outcome, gives, ready, accepted-answer, accepted-ends}
+use Rattle.sweep.proofs.Windows.{windows-most}
+use Rattle.sweep.proofs.Finished.{Written, ended, over-exactly, written, finished-ends, state-composes, ends-compose, moves-compose}
+
+module _ (reference : ℕ) (co2 : List ℕ) (room : ℕ) (s : SweepState) where
+  -- ---- refused exactly when
+  -- each number is given exactly when its condition holds and none before it in the order does (`Outcome`)
+  pub refused-exactly : (refusal : ℕ) → (sweepRefusal reference co2 room s ≡ refusal) ↔ Outcome reference co2 room s refusal
+  refused-exactly refusal = (λ e. rw e at (outcome reference co2 room s), gives reference co2 room s)
+
+  -- the answer has that number, and its place
+  pub answer-refusal : (budget : ℕ) → (sweepAnswer reference co2 room s budget .refusal ≡ sweepRefusal reference co2 room s) × (sweepAnswer reference co2 room s budget .place ≡ placeOf co2 (sweepRefusal reference co2 room s))
+  unfolding sweepAnswer
+  answer-refusal budget = go (sweepRefusal reference co2 room s) (outcome reference co2 room s)
+    where
+      go : (r : ℕ) → Outcome reference co2 room s r → (pick (eqb r accepted) (runAnswer reference co2 s budget) (refusedAnswer co2 r) .refusal ≡ r) × (pick (eqb r accepted) (runAnswer reference co2 s budget) (refusedAnswer co2 r) .place ≡ placeOf co2 r)
+      go _ (Outcome.bad-reference p) = (refl, refl)
+      go _ (Outcome.too-many p q) = (refl, refl)
+      go _ (Outcome.too-short p q r) = (refl, refl)
+      go _ (Outcome.bad-mass p q r t) = (refl, refl)
+      go _ (Outcome.never-reached p q r t u) = (refl, refl)
+      go _ (Outcome.fine ok) = (refl, refl)
+
+  -- ---- resumed
+  -- the state that an accepted call answers is accepted again
+  pub accepted-again : (budget : ℕ) → Accepted reference co2 room s → Accepted reference co2 room (afterMoves reference co2 budget s)
+  accepted-again budget ok =
+      let go = ready reference co2 room s ok in
+      record {
+        reference-in-range = ok .reference-in-range;
+        few = ok .few;
+        places = ok .places;
+        in-range = ok .in-range;
+        reached = stands-reached reference co2 (go .positive) (afterMoves reference co2 budget s) (stands-after reference co2 (go .positive) budget s (go .stands));
+      }
+
+-- ---- determined: two results that the contract allows coincide, the lane too
+pub determined {ℓ} : {A : Type ℓ} {meaning r r' : A} → r ≡ meaning → r' ≡ meaning → r ≡ r'
+determined p q = p ∙ sym q
+
+-- what an accepted call answers, and the lane that it leaves
+module _ (reference : ℕ) (co2 ends : List ℕ) (s : SweepState) (ok : Accepted reference co2 (length ends) s) where
+  no-refusal : sweepRefusal reference co2 (length ends) s ≡ accepted
+  no-refusal = refused-exactly reference co2 (length ends) s accepted .1 (Outcome.fine ok)
+
+  pub run-answered : (budget : ℕ) → sweepAnswer reference co2 (length ends) s budget ≡ runAnswer reference co2 s budget
+  run-answered budget = accepted-answer reference co2 (length ends) s budget no-refusal
+
+  pub run-written : (budget : ℕ) → sweepEnds reference co2 ends s budget ≡ endsAfter reference co2 budget s ends
+  run-written budget = accepted-ends reference co2 ends s budget no-refusal
+
+  -- "a call writes only the places of windows it closes"
+  pub only-closed : (budget : ℕ) → Written reference co2 s (afterMoves reference co2 budget s) ends (sweepEnds reference co2 ends s budget)
+  only-closed budget =
+      let go = ready reference co2 (length ends) s ok in
+      rw (run-written budget) (written reference co2 (go .positive) budget s ends (go .stands) (ok .places))
+
+-- two calls, one after the other, are one call with both budgets: state, moves, whether it is over, and lane
+pub record Resumed (first second whole : Swept) (lane whole-lane : List ℕ) : Type 0 where
+  pub state : second .state ≡ whole .state
+  pub moves : first .moves + second .moves ≡ whole .moves
+  pub over : second .over ≡ whole .over
+  pub ends : lane ≡ whole-lane
+
+module _ (reference : ℕ) (co2 ends : List ℕ) (s : SweepState) (a b : ℕ) where
+  abbrev pub firstAnswer : Swept
+  firstAnswer = sweepAnswer reference co2 (length ends) s a
+
+  abbrev pub firstLane : List ℕ
+  firstLane = sweepEnds reference co2 ends s a
+
+  pub resumed : Accepted reference co2 (length ends) s → Resumed firstAnswer (sweepAnswer reference co2 (length firstLane) (firstAnswer .state) b) (sweepAnswer reference co2 (length ends) s (a + b)) (sweepEnds reference co2 firstLane (firstAnswer .state) b) (sweepEnds reference co2 ends s (a + b))
+  resumed ok =
+      let next = accepted-again reference co2 (length ends) s a ok in
+      let first : sweepAnswer reference co2 (length ends) s a ≡ runAnswer reference co2 s a = run-answered reference co2 ends s ok a in
+      let whole : sweepAnswer reference co2 (length ends) s (a + b) ≡ runAnswer reference co2 s (a + b) = run-answered reference co2 ends s ok (a + b) in
+      let same : length (sweepEnds reference co2 ends s a) ≡ length ends = only-closed reference co2 ends s ok a .same-length in
+      let next-there : Accepted reference co2 (length (sweepEnds reference co2 ends s a)) (afterMoves reference co2 a s) = rw same next in
+      let second : sweepAnswer reference co2 (length (sweepEnds reference co2 ends s a)) (afterMoves reference co2 a s) b ≡ runAnswer reference co2 (afterMoves reference co2 a s) b = run-answered reference co2 (sweepEnds reference co2 ends s a) (afterMoves reference co2 a s) next-there b in
+      let lane-second : sweepEnds reference co2 (sweepEnds reference co2 ends s a) (afterMoves reference co2 a s) b ≡ endsAfter reference co2 b (afterMoves reference co2 a s) (sweepEnds reference co2 ends s a) = run-written reference co2 (sweepEnds reference co2 ends s a) (afterMoves reference co2 a s) next-there b in
+      record {
+        state = rw (first, second, whole) (sym (state-composes reference co2 a b s));
+        moves = rw (first, second, whole) (sym (moves-compose reference co2 a b s));
+        over = rw (first, second, whole) (ap (λ (v : SweepState). isOver reference co2 v) (sym (state-composes reference co2 a b s)));
+        ends = rw (first, lane-second, run-written reference co2 ends s ok a, run-written reference co2 ends s ok (a + b)) (sym (ends-compose reference co2 a b s ends));
+      }
+
+-- ---- run to its end, from the beginning: it is over, has dropped each window's first second, and the lane holds the ends
+pub record Whole (reference : ℕ) (co2 before after : List ℕ) (answer : Swept) : Type 0 where
+  pub refusal : answer .refusal ≡ accepted
+  pub over : answer .over ≡ true
+  pub dropped : answer .state .dropped ≡ windows reference co2
+  pub moves : answer .moves ≡ length co2 + windows reference co2
+  pub ends : (f : ℕ) → getD after f 0 ≡ pick (hasWindow reference co2 f) (windowEnd reference co2 f) (getD before f 0)
+  pub same-length : length after ≡ length before
+
+module _ (reference : ℕ) (co2 ends : List ℕ) (budget : ℕ) where
+  pub whole : Accepted reference co2 (length ends) beginning → length co2 + length co2 ≤ budget → Whole reference co2 ends (sweepEnds reference co2 ends beginning budget) (sweepAnswer reference co2 (length ends) beginning budget)
+  whole ok enough =
+      let positive : 1 ≤ reference = ready reference co2 (length ends) beginning ok .positive in
+      let answer = run-answered reference co2 ends beginning ok budget in
+      let over : isOver reference co2 (afterMoves reference co2 budget beginning) ≡ true = over-exactly reference co2 positive budget .1 (omega (arith, windows-most reference co2)) in
+      let end = ended reference co2 positive (stands-after reference co2 positive budget beginning (begins reference co2)) over in
+      record {
+        refusal = ap (λ (r : Swept). r .refusal) answer;
+        over = ap (λ (r : Swept). r .over) answer ∙ over;
+        dropped = ap (λ (r : Swept). r .state .dropped) answer ∙ end .dropped;
+        moves = ap (λ (r : Swept). r .moves) answer ∙ (let m : movesMade reference co2 budget beginning ≡ length co2 + windows reference co2 = omega (arith, end .moves, moves-counted reference co2 budget beginning) in m);
+        ends = λ f. ap (λ (l : List ℕ). getD l f 0) (run-written reference co2 ends beginning ok budget) ∙ finished-ends reference co2 positive budget ends (ok .places) over f;
+        same-length = only-closed reference co2 ends beginning ok budget .same-length;
+      }
+
+-- kept lanes in range are accepted from the beginning
+pub accepts-beginning : (reference : ℕ) (co2 : List ℕ) (room : ℕ) → referenceInRange reference ≡ true → length co2 ≤ tripLimit → length co2 ≤ room → ((i : ℕ) → i < length co2 → getD co2 i 0 ≤ co2Most) → Accepted reference co2 room beginning
+accepts-beginning reference co2 room r few places light =
+    let range = both (leb 1 reference) (leb reference referenceMost) r in
+    let all : firstBad (λ i. co2InRange (getD co2 i 0)) (length co2) ≡ length co2 = first-bad-is (λ i. co2InRange (getD co2 i 0)) (length co2) (length co2) (record { within = omega arith; before = λ i h. le-leb (getD co2 i 0) co2Most (light i h); there = λ (h : length co2 < length co2). absurd (omega arith) }) in
+    record {
+      reference-in-range = r;
+      few = few;
+      places = places;
+      in-range = omega arith;
+      reached = stands-reached reference co2 (leb-true 1 reference (range .0)) beginning (begins reference co2);
+    }

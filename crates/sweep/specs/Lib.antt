@@ -1,0 +1,4 @@
+-- The definitions of windows and of the sweep.
+pub mod Window
+pub mod Sweep
+pub mod Inside

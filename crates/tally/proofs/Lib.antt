@@ -1,0 +1,5 @@
+-- The laws of the tallies and counts.
+pub mod Sums
+pub mod Tallies
+pub mod Seconds
+pub mod Gaps

@@ -1,0 +1,71 @@
+-- Laws of the counts: one second more, and how large they grow. Assumes nothing.
+use Prim.Native.Nat.{ℕ, suc, _+_, _≤_, _<_}
+use mathlib.Core.Path.{_≡_, refl, sym, _∙_, ap}
+use mathlib.Core.Bool.{Bool, true, false, _&&_}
+use mathlib.Core.List.{List}
+use native.Mathlib.Numerals.{add-one}
+use native.Mathlib.Omega.{arith}
+use borrow.Author.Tests.{ltb-true, le-leb}
+use lib.Dec.{leb, ltb, eqb}
+use lib.ListN.{length, getD}
+use Rattle.base.specs.Limits.{tripLimit}
+use Rattle.base.specs.Words.{pick, afterFirst}
+use Rattle.base.proofs.Seconds.{after-more}
+use Rattle.second.specs.Bins.{urban, binOf}
+use Rattle.second.specs.Lanes.{hasValues}
+use Rattle.tally.specs.declared.Counts.{Counts}
+use Rattle.tally.specs.Sets.{sumOver, howMany, isMissing, isInBin, isAbove}
+use Rattle.tally.specs.Counts.{larger, gapWith, gapAfter, longestGap, isSlowUrban, countsAfter, countsWith, Few}
+use Rattle.tally.proofs.Sums.{sum-over-more, how-many-at-most}
+
+-- a second slower than 100 is urban
+slow-is-urban : (present : Bool) (speed : ℕ) → present && eqb (binOf speed) urban && ltb speed 100 ≡ present && ltb speed 100
+unfolding binOf
+slow-is-urban present speed = go present (ltb speed 100) refl
+  where
+    go : (t slow : Bool) → ltb speed 100 ≡ slow → t && eqb (binOf speed) urban && slow ≡ t && slow
+    go false slow q = refl
+    go true true q =
+        let low : leb speed 6_000 ≡ true = le-leb speed 6_000 (omega (arith, ltb-true speed 100 q)) in
+        rw low refl
+    go true false q = both (eqb (binOf speed) urban)
+      where
+        both : (b : Bool) → b && false ≡ false
+        both true = refl
+        both false = refl
+
+module _ (states : List ℕ) where
+  pub gap-none : gapAfter states 0 ≡ 0
+  unfolding gapAfter afterFirst
+  gap-none = refl
+
+  pub gap-more : (i : ℕ) → gapAfter states (i + 1) ≡ gapWith (gapAfter states i) (getD states i 0)
+  unfolding gapAfter
+  gap-more i = after-more _ 0 i
+
+  pub longest-gap-more : (i : ℕ) → longestGap states (i + 1) ≡ larger (longestGap states i) (gapAfter states (i + 1))
+  unfolding longestGap
+  longest-gap-more i = after-more _ 0 i ∙ ap (λ (k : ℕ). larger (afterFirst (λ j longest. larger longest (gapAfter states (suc j))) 0 i) (gapAfter states k)) (sym (add-one i))
+
+module _ (states speeds : List ℕ) where
+  pub counts-none : countsAfter states speeds 0 ≡ record { missing = 0; gap = 0; slow = 0; fast = 0; faster = 0; fastest = 0 }
+  unfolding countsAfter sumOver longestGap afterFirst
+  counts-none = refl
+
+  -- one second more, at the code's i + 1
+  pub counts-more : (i : ℕ) → countsAfter states speeds (i + 1) ≡ countsWith (countsAfter states speeds i) (gapAfter states (i + 1)) (getD states i 0) (getD speeds i 0)
+  unfolding countsAfter countsWith
+  counts-more i =
+      rw (sum-over-more, longest-gap-more, sum-over-more, sum-over-more, sum-over-more, sum-over-more, slow-is-urban) refl
+
+  -- no count passes the seconds counted
+  pub counts-few : (i : ℕ) → i ≤ tripLimit → Few (countsAfter states speeds i)
+  unfolding countsAfter
+  counts-few i few =
+      record {
+        missing = omega (arith, how-many-at-most (isMissing states) i);
+        slow = omega (arith, how-many-at-most (isSlowUrban states speeds) i);
+        fast = omega (arith, how-many-at-most (isAbove states speeds 10_000) i);
+        faster = omega (arith, how-many-at-most (isAbove states speeds 14_500) i);
+        fastest = omega (arith, how-many-at-most (isAbove states speeds 16_000) i);
+      }

@@ -1,0 +1,4 @@
+-- The laws of a whole trip.
+pub mod Chain
+pub mod Passed
+pub mod Answers

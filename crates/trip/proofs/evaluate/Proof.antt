@@ -1,0 +1,89 @@
+-- `trip::evaluate` meets its contract: a refusal touches nothing, and an accepted trip gives each part what it asks; the parts'
+-- promises are the definition. Assumes nothing.
+use mathlib.Core.Path.{_≡_, refl, sym, _∙_, ap}
+use mathlib.Core.Bool.{true, false}
+use Rattle.base.specs.Refusal.{accepted}
+use Rattle.second.specs.declared.Fault.{Fault}
+use Rattle.second.specs.Lanes.{Lanes, lanesOf}
+use Rattle.trip.specs.declared.Rooms.{Rooms}
+use Rattle.trip.specs.Refusals.{roomsOf, tripFault, isAccepted}
+use Rattle.trip.proofs.Passed.{Accepted, passed, is-accepted, is-refused, findable, bin-lanes, climb-lanes}
+use Rattle.trip.proofs.Answers.{refused-answer, refused-speeds, refused-co2, refused-ends, refused-ranks, accepted-answer, accepted-speeds, accepted-co2, accepted-ends, accepted-ranks}
+use borrow.Author.Needs.{needs}
+use Rattle.trip.proofs.evaluate.Statement.{statement}
+use Rattle.trip.proofs.evaluate.Tie as tie
+
+abbrev trip : tie.Start → Lanes
+trip c = lanesOf (c .args .states .now) (c .args .speeds .now) (c .args .altitudes .now) (c .args .co2 .now) (c .args .nox .now)
+
+abbrev rooms : tie.Start → Rooms
+rooms c = roomsOf (c .args .kept-speeds .now) (c .args .kept-co2 .now) (c .args .ends .now) (c .args .ranks .now)
+
+-- the test that lets a trip through
+number-zero : (c : tie.Else1) → tripFault (c .before .before .before .before .before .before .before .before .before .before .args .plan) (trip (c .before .before .before .before .before .before .before .before .before .before)) (rooms (c .before .before .before .before .before .before .before .before .before .before)) .number ≡ accepted
+number-zero c = ap (λ (f : Fault). f .number) (sym (c .before .fault-of .ensures)) ∙ c .if1 .left
+
+ok : (c : tie.Else1) → Accepted (c .before .before .before .before .before .before .before .before .before .before .args .plan) (trip (c .before .before .before .before .before .before .before .before .before .before)) (rooms (c .before .before .before .before .before .before .before .before .before .before))
+ok c = passed _ _ _ (number-zero c)
+
+good : (c : tie.Else1) → isAccepted (c .before .before .before .before .before .before .before .before .before .before .args .plan) (trip (c .before .before .before .before .before .before .before .before .before .before)) (rooms (c .before .before .before .before .before .before .before .before .before .before)) ≡ true
+good c = is-accepted _ _ _ (number-zero c)
+
+-- the test that refuses it
+no-good : (c : tie.Then1) → isAccepted (c .before .before .before .before .before .before .before .before .before .before .args .plan) (trip (c .before .before .before .before .before .before .before .before .before .before)) (rooms (c .before .before .before .before .before .before .before .before .before .before)) ≡ false
+no-good c = is-refused _ _ _ (λ e. c .if1 .taken (ap (λ (f : Fault). f .number) (c .before .fault-of .ensures) ∙ e))
+
+fault-of-requires : tie.Need-fault-of-requires
+fault-of-requires c κs = search needs
+
+refused-for-requires : tie.Need-refused-for-requires
+refused-for-requires c κs = search needs
+
+returns : tie.Need-returns
+returns c =
+    let no = no-good (c .before) in
+    (rw (refused-answer _ _ _ no, ← c .before .before .fault-of .ensures) (c .refused-for .ensures), (sym (refused-speeds _ _ _ no _), (sym (refused-co2 _ _ _ no _), (sym (refused-ends _ _ _ no _), sym (refused-ranks _ _ _ no _)))))
+
+find-requires : tie.Need-find-requires
+find-requires c κs = findable (ok (c .before .before .before))
+
+measure-requires : tie.Need-measure-requires
+measure-requires c κs = bin-lanes (ok (c .before .before .before .before .before .before .before .before .before .before .before)) _ refl
+
+conclude-requires : tie.Need-conclude-requires
+conclude-requires c κs = climb-lanes (ok (c .before .before .before .before .before .before .before .before .before .before .before .before .before .before))
+
+same-length : tie.Need-same-length
+same-length c = search needs
+
+same-length-2 : tie.Need-same-length-2
+same-length-2 c = search needs
+
+same-length-3 : tie.Need-same-length-3
+same-length-3 c = search needs
+
+same-length-4 : tie.Need-same-length-4
+same-length-4 c = search needs
+
+returns-2 : tie.Need-returns-2
+returns-2 c =
+    let yes = good (c .before .before .before .before .before .before .before .before .before .before .before .before .before .before .before) in
+    let f = c .before .before .before .before .before .before .before .before .before .before .before .find .ensures in
+    let m = c .before .before .before .measure .ensures in
+    (rw (accepted-answer _ _ _ yes, c .conclude .ensures, f .0, m .0) refl, (f .1 .0 ∙ sym (accepted-speeds _ _ _ yes _), (f .1 .1 .0 ∙ sym (accepted-co2 _ _ _ yes _), (f .1 .1 .1 ∙ sym (accepted-ends _ _ _ yes _), m .1 ∙ sym (accepted-ranks _ _ _ yes _)))))
+
+pub evaluate-spec : {M : Type 1} → statement M
+evaluate-spec =
+    tie.close
+    (tie.spec
+    fault-of-requires
+    refused-for-requires
+    returns
+    find-requires
+    measure-requires
+    conclude-requires
+    same-length
+    same-length-2
+    same-length-3
+    same-length-4
+    returns-2)

@@ -1,0 +1,93 @@
+-- `refusals::fault_of` meets its contract: its tests are those of the definition, in the same order. Assumes nothing.
+use mathlib.Core.Path.{_≡_, sym, _∙_, ap}
+use mathlib.Core.Bool.{true, false}
+use borrow.Author.Tests.{not-true, not-false, lt-ltb, le-ltb}
+use lib.Dec.{ltb}
+use Rattle.base.specs.Plan.{planInRange}
+use Rattle.base.specs.Refusal.{outOfRange}
+use Rattle.base.specs.Second.{tooMany}
+use Rattle.second.specs.Lanes.{Lanes, lanesOf, secondsIn, lanesAgree, firstBadSecond}
+use Rattle.second.proofs.Lanes.{agree}
+use Rattle.trip.specs.Refusals.{fault, tooShort}
+use Rattle.trip.proofs.Chain.{gives-plan, gives-differ, gives-many, gives-short, gives-bad, gives-none, gives-accepted}
+use borrow.Author.Needs.{needs}
+use Rattle.trip.proofs.refusals.fault_of.Statement.{statement}
+use Rattle.trip.proofs.refusals.fault_of.Tie as tie
+
+abbrev trip : tie.Start → Lanes
+trip c = lanesOf (c .args .states .now) (c .args .speeds .now) (c .args .altitudes .now) (c .args .co2 .now) (c .args .nox .now)
+
+-- what passed each test
+ranged : (c : tie.Else1) → planInRange (c .before .before .before .before .before .before .args .plan) ≡ true
+ranged c = sym (c .before .plan-in-range .ensures) ∙ not-false _ (c .if1 .left)
+
+agrees : (c : tie.Else2) → lanesAgree (trip (c .before .before .before .before .before .before .before .before)) ≡ true
+agrees c = sym (c .before .lanes-agree .ensures) ∙ not-false _ (c .if2 .left)
+
+few : (c : tie.Else3) → tooMany (secondsIn (trip (c .before .before .before .before .before .before .before .before .before .before))) ≡ false
+few c = sym (c .before .too-many .ensures) ∙ c .if3 .left
+
+roomy : (c : tie.Else4) → tooShort (c .before .before .before .before .before .before .before .before .before .before .before .before .args .rooms) (secondsIn (trip (c .before .before .before .before .before .before .before .before .before .before .before .before))) ≡ false
+roomy c = sym (c .before .too-short .ensures) ∙ c .if4 .left
+
+all-good : (c : tie.Else5) → ltb (firstBadSecond (trip (c .before .before .before .before .before .before .before .before .before .before .before .before .before .before))) (secondsIn (trip (c .before .before .before .before .before .before .before .before .before .before .before .before .before .before))) ≡ false
+all-good c = rw (sym (c .before .first-bad .ensures)) (le-ltb _ _ (c .if5 .left))
+
+plan-in-range-requires : tie.Need-plan-in-range-requires
+plan-in-range-requires c κs = search needs
+
+returns : tie.Need-returns
+returns c = sym (gives-plan _ _ _ (sym (c .before .plan-in-range .ensures) ∙ not-true _ (c .if1 .taken)))
+
+lanes-agree-requires : tie.Need-lanes-agree-requires
+lanes-agree-requires c κs = search needs
+
+returns-2 : tie.Need-returns-2
+returns-2 c = sym (gives-differ _ _ _ (ranged (c .before .before)) (sym (c .before .lanes-agree .ensures) ∙ not-true _ (c .if2 .taken)))
+
+too-many-requires : tie.Need-too-many-requires
+too-many-requires c κs = search needs
+
+returns-3 : tie.Need-returns-3
+returns-3 c = sym (gives-many _ _ _ (ranged (c .before .before .before .before)) (agrees (c .before .before)) (sym (c .before .too-many .ensures) ∙ c .if3 .taken))
+
+too-short-requires : tie.Need-too-short-requires
+too-short-requires c κs = search needs
+
+returns-4 : tie.Need-returns-4
+returns-4 c = sym (gives-short _ _ _ (ranged (c .before .before .before .before .before .before)) (agrees (c .before .before .before .before)) (few (c .before .before)) (sym (c .before .too-short .ensures) ∙ c .if4 .taken))
+
+first-bad-requires : tie.Need-first-bad-requires
+first-bad-requires c κs = agree _ (agrees (c .before .before .before .before))
+
+returns-5 : tie.Need-returns-5
+returns-5 c =
+    ap (fault outOfRange) (c .before .first-bad .ensures)
+    ∙ sym (gives-bad _ _ _ (ranged (c .before .before .before .before .before .before .before .before)) (agrees (c .before .before .before .before .before .before)) (few (c .before .before .before .before)) (roomy (c .before .before)) (rw (sym (c .before .first-bad .ensures)) (lt-ltb _ _ (c .if5 .taken))))
+
+none-has-values-requires : tie.Need-none-has-values-requires
+none-has-values-requires c κs = search needs
+
+returns-6 : tie.Need-returns-6
+returns-6 c = sym (gives-none _ _ _ (ranged (c .before .before .before .before .before .before .before .before .before .before)) (agrees (c .before .before .before .before .before .before .before .before)) (few (c .before .before .before .before .before .before)) (roomy (c .before .before .before .before)) (all-good (c .before .before)) (sym (c .before .none-has-values .ensures) ∙ c .if6 .taken))
+
+returns-7 : tie.Need-returns-7
+returns-7 c = sym (gives-accepted _ _ _ (ranged (c .before .before .before .before .before .before .before .before .before .before)) (agrees (c .before .before .before .before .before .before .before .before)) (few (c .before .before .before .before .before .before)) (roomy (c .before .before .before .before)) (all-good (c .before .before)) (sym (c .before .none-has-values .ensures) ∙ c .if6 .left))
+
+pub fault-of-spec : {M : Type 1} → statement M
+fault-of-spec =
+    tie.close
+    (tie.spec
+    plan-in-range-requires
+    returns
+    lanes-agree-requires
+    returns-2
+    too-many-requires
+    returns-3
+    too-short-requires
+    returns-4
+    first-bad-requires
+    returns-5
+    none-has-values-requires
+    returns-6
+    returns-7)

@@ -1,0 +1,9 @@
+-- The laws of figures and counts.
+pub mod Signs
+pub mod Curve
+pub mod Band
+pub mod PlanRanges
+pub mod Classes
+pub mod Counts
+pub mod AfterSweep
+pub mod Examples

@@ -1,0 +1,68 @@
+-- What a window is judged by (Appendix 5), from the plan, the sum S of its speeds, its CO2 m in mg and its length n.
+-- A window has at least one second and each is kept, so n is at least 1 and S at least 100 n.
+use Prim.Native.Nat.{ℕ, _+_, _-_, _*_, _/_}
+use mathlib.Core.Bool.{Bool, false, _&&_}
+use lib.Dec.{leb, ltb, eqb}
+use lib.IntN.{ℤ, pos, negsuc, _+ℤ_, _-ℤ_, _*ℤ_}
+use lib.Signed.{leZ}
+use Rattle.base.specs.declared.Plan.{Plan}
+use Rattle.base.specs.Words.{pick}
+use Rattle.windows.specs.declared.Figure.{Figure}
+
+-- "mean speed is v = floor(10S/n) in 0.001 km/h"
+abbrev pub meanSpeed : ℕ → ℕ → ℕ
+meanSpeed s n = 10 * s / n
+
+-- the classes, by number
+abbrev pub urban : ℕ
+urban = 0
+
+abbrev pub rural : ℕ
+rural = 1
+
+abbrev pub motorway : ℕ
+motorway = 2
+
+abbrev pub unclassed : ℕ
+unclassed = 3
+
+-- "Urban: v < 45,000. Rural: to below 80,000. Motorway: to below 145,000. Faster windows have no class."
+unfoldable pub classOf : ℕ → ℕ
+classOf v = pick (ltb v 45_000) urban (pick (ltb v 80_000) rural (pick (ltb v 145_000) motorway unclassed))
+
+-- the quotient by w, "floor towards minus infinity"; `negsuc a` is -(a + 1)
+unfoldable pub floorBy : ℤ → ℕ → ℤ
+floorBy (pos a) w = pos (a / w)
+floorBy (negsuc a) w = negsuc (a / w)
+
+-- the line from the value e at speed a to the value f at speed a + w
+unfoldable pub lineAt : ℕ → ℕ → ℕ → ℕ → ℕ → ℤ
+lineAt e f a w v = pos e +ℤ floorBy ((pos f -ℤ pos e) *ℤ (pos v -ℤ pos a)) w
+
+-- "for v up to 56,664, E1 + floor((E2-E1)(v-18,882)/37,782), also below 18,882; beyond, E2 + floor((E3-E2)(v-56,664)/35,333)"
+unfoldable pub curve : Plan → ℕ → ℤ
+curve plan v =
+    pick (leb v 56_664) (lineAt (plan .e1) (plan .e2) 18_882 37_782 v) (lineAt (plan .e2) (plan .e3) 56_664 35_333 v)
+
+-- "Window figure w = floor(360,000 m / S), m its CO2 in mg."
+abbrev pub massPerKm : ℕ → ℕ → ℕ
+massPerKm s m = 360_000 * m / s
+
+-- "Inside: 100w at least (100-lower)c and at most (100+upper)c."
+unfoldable pub inBand : ℕ → ℕ → ℤ → ℕ → Bool
+inBand lower upper c w =
+    leZ (pos (100 - lower) *ℤ c) (pos (100 * w)) && leZ (pos (100 * w)) (pos (100 + upper) *ℤ c)
+
+-- "upper tolerances for urban, rural, motorway"
+unfoldable pub upperOf : Plan → ℕ → ℕ
+upperOf plan class = pick (eqb class urban) (plan .urban) (pick (eqb class rural) (plan .rural) (plan .motorway))
+
+-- the class of a window and whether it is inside; a window without a class is in no band
+unfoldable pub figureOf : Plan → ℕ → ℕ → ℕ → Figure
+figureOf plan s m n =
+    let v = meanSpeed s n in
+    let class = classOf v in
+    record {
+      class = class;
+      inside = pick (eqb class unclassed) false (inBand (plan .lower) (upperOf plan class) (curve plan v) (massPerKm s m));
+    }
