@@ -10,6 +10,7 @@
 #ifndef PIERBRACKEN_H
 #define PIERBRACKEN_H
 
+#include <stdbool.h>
 #include <stddef.h>
 #include <stdint.h>
 
@@ -71,6 +72,216 @@ typedef struct pb_mass_answer {
  */
 pb_mass_answer pb_mass_co2(uint8_t kind, double value, pb_setting setting);
 pb_mass_answer pb_mass_nox(uint8_t kind, double value, pb_setting setting);
+
+/* ---- the trip stream ---- */
+
+/* What a trip is judged by. */
+typedef struct pb_plan {
+    uint32_t reference; /* reference CO2 mass in mg: 1 to 20,000,000 */
+    uint32_t e1;        /* curve values in mg/km, each 1 to 2,000,000 */
+    uint32_t e2;
+    uint32_t e3;
+    uint8_t lower;    /* tolerances in percent, each 0 to 100: lower, and the upper ones */
+    uint8_t urban;
+    uint8_t rural;
+    uint8_t motorway;
+} pb_plan;
+
+/* The kinds of item. */
+enum {
+    PB_ITEM_PLAN = 0x10,     /* 21 bytes with the kind */
+    PB_ITEM_MEASURED = 0x01, /* 15 bytes */
+    PB_ITEM_MISSING = 0x02,  /* 1 byte */
+    PB_ITEM_CHECK = 0x03     /* 15 bytes */
+};
+
+/* The states of a second. */
+enum {
+    PB_MEASURED = 1, /* all its values were measured */
+    PB_MISSING = 2,  /* its values are ignored */
+    PB_CHECK = 3     /* instrument check: speed and altitude count, masses do not */
+};
+
+/* One item. Only the members of its kind are set, the others are zero. */
+typedef struct pb_item_answer {
+    uint8_t refusal;  /* 0, PB_UNKNOWN_KIND, PB_CUT_ITEM, PB_PLAN_OUT_OF_RANGE, PB_OUT_OF_RANGE */
+    uint8_t kind;     /* the kind byte; 0 in a refusal */
+    uint16_t speed;   /* 0.01 km/h: 0 to 25,000 */
+    int32_t altitude; /* cm: -50,000 to 500,000 */
+    uint32_t co2;     /* mg in the second: 0 to 100,000 */
+    uint32_t nox;     /* ug in the second: 0 to 10,000,000 */
+    pb_plan plan;
+    size_t length; /* bytes of the item with its kind byte; 0 in a refusal */
+    size_t place;  /* 0 */
+} pb_item_answer;
+
+/*
+ * One item from the front of `count` bytes. Refused by PB_UNKNOWN_KIND, then PB_CUT_ITEM (also
+ * where count is 0), then PB_PLAN_OUT_OF_RANGE or PB_OUT_OF_RANGE.
+ */
+pb_item_answer pb_item(const uint8_t *bytes, size_t count);
+
+/* The answer of reading a whole stream. */
+typedef struct pb_read_answer {
+    uint8_t refusal;
+    size_t place; /* byte offset of the first bad item */
+    pb_plan plan;
+    size_t seconds; /* seconds read, missing ones too */
+} pb_read_answer;
+
+/*
+ * A whole stream into five lanes: for each second its state and its values, zeros for a missing
+ * second. Places beyond the seconds read are left alone. A trip of 8,192 seconds takes at most
+ * 122,901 bytes.
+ *
+ * The first bad item counts; within it PB_UNKNOWN_KIND, PB_CUT_ITEM, PB_PLAN_MISPLACED,
+ * PB_PLAN_OUT_OF_RANGE or PB_OUT_OF_RANGE, PB_TOO_MANY, PB_LANE_TOO_SHORT. An empty stream is
+ * PB_PLAN_MISPLACED at 0. A refused call writes into no lane.
+ *
+ * No pointer is NULL, also where its count is 0, and no two lanes overlap.
+ */
+pb_read_answer pb_read(const uint8_t *stream, size_t stream_bytes,
+                       uint8_t *states, size_t states_places,
+                       uint16_t *speeds, size_t speeds_places,
+                       int32_t *altitudes, size_t altitudes_places,
+                       uint32_t *co2, size_t co2_places,
+                       uint32_t *nox, size_t nox_places);
+
+/* ---- the sweep over the kept seconds ---- */
+
+/* Where a sweep stands. It begins with all four zero. */
+typedef struct pb_sweep_state {
+    uint64_t taken;   /* kept seconds taken */
+    uint64_t dropped; /* kept seconds dropped: as many windows are closed */
+    uint64_t mass;    /* CO2 of the seconds taken and not dropped, mg */
+    uint64_t moves;   /* moves made since the beginning */
+} pb_sweep_state;
+
+/* The answer of a run of the sweep. */
+typedef struct pb_sweep_answer {
+    uint8_t refusal;
+    size_t place;         /* index of the first bad mass for PB_OUT_OF_RANGE, else 0 */
+    pb_sweep_state state; /* where the sweep stands now */
+    uint64_t moves;       /* moves made by this call */
+    bool over;            /* whether no move is left */
+} pb_sweep_answer;
+
+/*
+ * Makes exactly `budget` moves (0 allowed) from `state`, or fewer only because the sweep is over.
+ * One move: if the mass reaches the reference, the window is closed, its end is written into the
+ * place of its first second (the first kept second is numbered 1), and that second is dropped;
+ * otherwise the next kept second is taken; with none left the sweep is over. Only the places of
+ * windows closed by this call are written.
+ *
+ * Refused by PB_PLAN_OUT_OF_RANGE (the reference, mg, 1 to 20,000,000), PB_TOO_MANY,
+ * PB_LANE_TOO_SHORT (ends needs a place for each mass), PB_OUT_OF_RANGE (a mass above 100,000 mg),
+ * PB_STATE_NOT_REACHED, in this order; a refused call leaves the lane.
+ */
+pb_sweep_answer pb_sweep(uint32_t reference, const uint32_t *co2, size_t co2_count,
+                         uint16_t *ends, size_t ends_places,
+                         pb_sweep_state state, uint64_t budget);
+
+/* ---- dynamics ---- */
+
+/* D of one second: the next speed minus the previous one. */
+typedef struct pb_acceleration_answer {
+    uint8_t refusal;
+    bool has_d;    /* false: the second is missing, or one beside it */
+    uint16_t rise; /* D is rise - fall, in 0.01 km/h; one of the two is 0 */
+    uint16_t fall;
+    size_t place; /* index of the first bad second for PB_OUT_OF_RANGE, else 0 */
+} pb_acceleration_answer;
+
+/*
+ * D of the second `index`, from 0, of a trip's five lanes; before the first and after the last
+ * second the speed is 0. Refused by PB_LANES_DIFFER, PB_TOO_MANY, PB_OUT_OF_RANGE, PB_NO_SECOND
+ * (no second in state 1 or 3, or the index is past the end), in this order.
+ */
+pb_acceleration_answer pb_acceleration(const uint8_t *states, size_t states_count,
+                                       const uint16_t *speeds, size_t speeds_count,
+                                       const int32_t *altitudes, size_t altitudes_count,
+                                       const uint32_t *co2, size_t co2_count,
+                                       const uint32_t *nox, size_t nox_count, size_t index);
+
+/* The 95th percentile of products. */
+typedef struct pb_percentile_answer {
+    uint8_t refusal;
+    uint64_t q;   /* a hundred times the percentile, interpolated; 0 in a refusal */
+    size_t place; /* index of the first bad product for PB_OUT_OF_RANGE, else 0 */
+} pb_percentile_answer;
+
+/*
+ * Q of products (speed times D, each 0 to 625,000,000) in any order. They are ranked ascending
+ * into the lane, one place for each; the rest of the lane is left alone. With M products, j and r
+ * the quotient and remainder of 95 M by 100: Q = 100 x(j) + r (x(j+1) - x(j)).
+ *
+ * Refused by PB_TOO_MANY, PB_TOO_FEW_VALUES (fewer than 100), PB_LANE_TOO_SHORT, PB_OUT_OF_RANGE,
+ * in this order; a refused call leaves the lane.
+ */
+pb_percentile_answer pb_percentile(const uint32_t *products, size_t products_count,
+                                   uint32_t *ranks, size_t ranks_places);
+
+/* ---- a whole trip ---- */
+
+/* Seconds taken together. */
+typedef struct pb_tally {
+    uint32_t seconds;
+    uint32_t distance; /* the sum of the speeds, 0.01 km/h: one km is 360,000 */
+    uint64_t co2;      /* mg, of seconds in state 1 */
+    uint64_t nox;      /* ug, of seconds in state 1 */
+} pb_tally;
+
+/* One bin of a trip: urban up to 6,000, rural up to 9,000, motorway above (0.01 km/h). */
+typedef struct pb_bin {
+    uint32_t seconds;
+    uint32_t distance; /* as in pb_tally, and the two masses too */
+    uint64_t co2;
+    uint64_t nox;
+    uint32_t m; /* products that count: seconds with D above 72 */
+    uint64_t t; /* their sum */
+    uint64_t q; /* a hundred times their 95th percentile; 0 where m is below 100 */
+} pb_bin;
+
+/* Windows of a class. */
+typedef struct pb_class {
+    uint32_t windows;
+    uint32_t inside; /* those inside the band */
+} pb_class;
+
+/* The answer for a trip. Bins and classes stand in the order urban, rural, motorway. */
+typedef struct pb_trip_answer {
+    uint8_t refusal;
+    size_t place;     /* index of the first bad second for PB_OUT_OF_RANGE, else 0 */
+    uint32_t seconds; /* all seconds */
+    uint32_t missing;
+    uint32_t kept;
+    uint32_t windows; /* unclassed ones too */
+    uint32_t moves;
+    pb_bin bins[3];
+    pb_tally total;
+    uint64_t climb; /* cm */
+    pb_class classes[3];
+    uint16_t verdict; /* a bit for each reason of docs/VALID.md; 0 says that the trip is valid */
+} pb_trip_answer;
+
+/*
+ * Evaluates a trip from its plan and its five lanes. The four lent lanes need a place per second.
+ * Afterwards kept_speeds, kept_co2 hold the kept seconds in order, ends the ends of the windows
+ * (first kept second numbered 1) in the places of their first seconds, and ranks the products of
+ * the urban, then rural, then motorway bin, each ascending; all other places are left alone.
+ *
+ * Refused by PB_PLAN_OUT_OF_RANGE, PB_LANES_DIFFER, PB_TOO_MANY, PB_LANE_TOO_SHORT,
+ * PB_OUT_OF_RANGE, PB_NO_SECOND, in this order; a refused call writes into no lane.
+ */
+pb_trip_answer pb_evaluate(pb_plan plan, const uint8_t *states, size_t states_count,
+                           const uint16_t *speeds, size_t speeds_count,
+                           const int32_t *altitudes, size_t altitudes_count,
+                           const uint32_t *co2, size_t co2_count,
+                           const uint32_t *nox, size_t nox_count,
+                           uint16_t *kept_speeds, size_t kept_speeds_places,
+                           uint32_t *kept_co2, size_t kept_co2_places,
+                           uint16_t *ends, size_t ends_places,
+                           uint32_t *ranks, size_t ranks_places);
 
 #ifdef __cplusplus
 }

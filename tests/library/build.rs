@@ -1,14 +1,18 @@
-//! Links the static library that `make lib` makes.
+//! Links the static libraries that `make lib` makes: the product's, and the one with leaves for
+//! the tests.
 
 use std::path::Path;
 
 fn main() {
-    let folder = Path::new(env!("CARGO_MANIFEST_DIR")).join("../../target/pierbracken");
-    let archive = folder.join("libpierbracken.a");
-    if !archive.exists() {
-        panic!("target/pierbracken/libpierbracken.a is not there: run `make lib` first");
+    let target = Path::new(env!("CARGO_MANIFEST_DIR")).join("../../target");
+    for (folder, name) in [("pierbracken", "pierbracken"), ("staticlib", "probe")] {
+        let folder = target.join(folder);
+        let archive = folder.join(format!("lib{name}.a"));
+        if !archive.exists() {
+            panic!("{} is not there: run `make lib` first", archive.display());
+        }
+        println!("cargo:rustc-link-search=native={}", folder.display());
+        println!("cargo:rustc-link-lib=static={name}");
+        println!("cargo:rerun-if-changed={}", archive.display());
     }
-    println!("cargo:rustc-link-search=native={}", folder.display());
-    println!("cargo:rustc-link-lib=static=pierbracken");
-    println!("cargo:rerun-if-changed={}", archive.display());
 }

@@ -1,7 +1,11 @@
 //! The library beside plain safe Rust that does the same: one run, ratios printed.
 
 mod mass;
+mod plain_trip;
+mod stream;
+mod sweep;
 mod timing;
+mod trip;
 
 fn main() {
     println!(
@@ -9,4 +13,7 @@ fn main() {
         "work", "ours", "Rust", "ratio"
     );
     mass::bench();
+    stream::bench();
+    sweep::bench();
+    trip::bench();
 }

@@ -6,8 +6,15 @@
 //! its input, and the seed that brings it back. The last line is `N passed, M failed`.
 
 mod account;
+mod dynamics;
 mod mass;
+mod probe;
 mod random;
+mod stream;
+mod streams;
+mod sweep;
+mod trip;
+mod trips;
 
 use account::Account;
 
@@ -19,5 +26,10 @@ fn main() {
     });
     let mut account = Account::new(seed);
     mass::compare(&mut account);
+    stream::compare(&mut account);
+    sweep::compare(&mut account);
+    dynamics::compare(&mut account);
+    probe::compare(&mut account);
+    trip::compare(&mut account);
     std::process::exit(account.close());
 }

@@ -1,0 +1,302 @@
+//! The trip stream: one item, and a whole stream into lanes.
+
+use library::{ItemAnswer, Plan, ReadAnswer};
+use oracle::item as paper_item;
+use oracle::stream as paper;
+
+use crate::account::{Account, Comparison};
+use crate::random::Random;
+use crate::streams;
+
+/// More seconds than one call takes.
+const TOO_MANY: usize = 8_193;
+
+/// The five lanes, each of its own length, with what the caller left in them.
+#[derive(Clone, Debug, PartialEq, Eq)]
+struct Lanes {
+    states: Vec<u8>,
+    speeds: Vec<u16>,
+    altitudes: Vec<i32>,
+    co2: Vec<u32>,
+    nox: Vec<u32>,
+}
+
+impl Lanes {
+    /// Lanes of these lengths, filled with values that no stream leaves there.
+    fn guarded(lengths: [usize; 5]) -> Lanes {
+        Lanes {
+            states: vec![0xa5; lengths[0]],
+            speeds: vec![0xa5a5; lengths[1]],
+            altitudes: vec![-0x5a5a_5a5b; lengths[2]],
+            co2: vec![0xa5a5_a5a5; lengths[3]],
+            nox: vec![0xa5a5_a5a5; lengths[4]],
+        }
+    }
+}
+
+pub fn compare(account: &mut Account) {
+    let seed = account.seed;
+    account.compare("item, any bytes", |c| any_bytes(c, seed));
+    account.compare("stream, damaged, spliced and mixed up", |c| {
+        damaged(c, seed)
+    });
+    account.compare("stream, every change of one byte of a short one", |c| {
+        every_byte(c, seed)
+    });
+    account.compare("stream, two faults in one item and in two", |c| {
+        two_faults(c, seed)
+    });
+    account.compare("stream, lanes of unequal and short lengths", |c| {
+        short_lanes(c, seed)
+    });
+    account.compare("stream, power lost at each byte of three full ones", |c| {
+        every_prefix(c, seed)
+    });
+    account.compare("stream, more seconds than a call takes", |c| {
+        too_many(c, seed)
+    });
+}
+
+fn plan_of(plan: &oracle::Plan) -> Plan {
+    Plan {
+        reference: plan.reference,
+        e1: plan.e1,
+        e2: plan.e2,
+        e3: plan.e3,
+        lower: plan.lower,
+        urban: plan.upper[0],
+        rural: plan.upper[1],
+        motorway: plan.upper[2],
+    }
+}
+
+/// One item on both sides.
+fn item(comparison: &mut Comparison, bytes: &[u8]) {
+    let mut wanted = ItemAnswer::default();
+    match paper_item::item(bytes) {
+        Err(refusal) => {
+            wanted.refusal = refusal.number;
+            wanted.place = refusal.place;
+        }
+        Ok((found, length)) => {
+            wanted.kind = bytes[0];
+            wanted.length = length;
+            match found {
+                paper_item::Item::Plan(plan) => wanted.plan = plan_of(&plan),
+                paper_item::Item::Second(second) => {
+                    wanted.speed = second.speed;
+                    wanted.altitude = second.altitude;
+                    wanted.co2 = second.co2;
+                    wanted.nox = second.nox;
+                }
+            }
+        }
+    }
+    comparison.same(library::item(bytes), wanted, || format!("{bytes:02x?}"));
+}
+
+/// A whole stream on both sides: the answer and every place of every lane.
+fn read(comparison: &mut Comparison, bytes: &[u8], lengths: [usize; 5]) {
+    let (mut ours, mut theirs) = (Lanes::guarded(lengths), Lanes::guarded(lengths));
+    let got = library::read(
+        bytes,
+        library::Lanes {
+            states: &mut ours.states,
+            speeds: &mut ours.speeds,
+            altitudes: &mut ours.altitudes,
+            co2: &mut ours.co2,
+            nox: &mut ours.nox,
+        },
+    );
+    let wanted = paper::read(
+        bytes,
+        &mut paper::StreamLanes {
+            states: &mut theirs.states,
+            speeds: &mut theirs.speeds,
+            altitudes: &mut theirs.altitudes,
+            co2: &mut theirs.co2,
+            nox: &mut theirs.nox,
+        },
+    );
+    let mut answer = ReadAnswer::default();
+    match wanted {
+        Ok(found) => {
+            answer.plan = plan_of(&found.plan);
+            answer.seconds = found.seconds;
+        }
+        Err(refusal) => {
+            answer.refusal = refusal.number;
+            answer.place = refusal.place;
+        }
+    }
+    let same_lanes = ours == theirs;
+    comparison.same((got, same_lanes), (answer, true), || {
+        format!(
+            "lanes {lengths:?}, {} bytes {:02x?}",
+            bytes.len(),
+            &bytes[..bytes.len().min(200)]
+        )
+    });
+}
+
+fn any_bytes(comparison: &mut Comparison, seed: u64) {
+    let mut random = Random::new(seed ^ 21);
+    item(comparison, &[]);
+    for _ in 0..150_000 {
+        let kind = match random.below(6) {
+            0 => streams::PLAN,
+            5 => random.bits() as u8,
+            _ => streams::kind(&mut random),
+        };
+        let mut bytes = if kind == streams::PLAN {
+            streams::plan(&mut random, 12)
+        } else {
+            streams::second(&mut random, kind, 8)
+        };
+        match random.below(4) {
+            0 => bytes.truncate(random.below(bytes.len() as u64 + 1) as usize),
+            1 => bytes.extend((0..random.below(9)).map(|_| random.bits() as u8)),
+            2 => {
+                let at = random.below(bytes.len() as u64) as usize;
+                bytes[at] = random.bits() as u8;
+            }
+            _ => {}
+        }
+        item(comparison, &bytes);
+    }
+}
+
+fn damaged(comparison: &mut Comparison, seed: u64) {
+    let mut random = Random::new(seed ^ 22);
+    let mut other = streams::whole(&mut random, 5);
+    for _ in 0..200_000 {
+        let seconds = random.below(12) as usize;
+        let mut bytes = match random.below(3) {
+            0 => streams::any_items(&mut random, seconds),
+            _ => streams::whole(&mut random, seconds),
+        };
+        for _ in 0..random.below(3) {
+            streams::damaged(&mut random, &mut bytes, &other);
+        }
+        read(comparison, &bytes, [14; 5]);
+        if random.below(16) == 0 {
+            other = bytes;
+        }
+    }
+}
+
+fn every_byte(comparison: &mut Comparison, seed: u64) {
+    let mut random = Random::new(seed ^ 23);
+    let mut bytes = streams::plan(&mut random, 0);
+    for kind in [streams::MEASURED, streams::MISSING, streams::CHECK] {
+        bytes.extend(streams::second(&mut random, kind, 0));
+    }
+    for at in 0..bytes.len() {
+        let kept = bytes[at];
+        for value in 0..=u8::MAX {
+            bytes[at] = value;
+            read(comparison, &bytes, [3; 5]);
+        }
+        bytes[at] = kept;
+    }
+}
+
+/// Each pair of faults, in one item and in two, decides the order.
+fn two_faults(comparison: &mut Comparison, seed: u64) {
+    let mut random = Random::new(seed ^ 24);
+    for _ in 0..30_000 {
+        let mut bytes = Vec::new();
+        if random.below(5) > 0 {
+            bytes.extend(streams::plan(&mut random, 5));
+        }
+        for _ in 0..random.below(4) {
+            match random.below(5) {
+                0 => bytes.extend(streams::plan(&mut random, 2)),
+                1 => bytes.push([0x00, 0x04, 0x11, 0xff][random.below(4) as usize]),
+                _ => {
+                    let kind = streams::kind(&mut random);
+                    bytes.extend(streams::second(&mut random, kind, 3));
+                }
+            }
+        }
+        bytes.truncate(
+            bytes
+                .len()
+                .saturating_sub(random.below(3) as usize * random.below(9) as usize),
+        );
+        read(comparison, &bytes, [random.below(4) as usize; 5]);
+    }
+}
+
+fn short_lanes(comparison: &mut Comparison, seed: u64) {
+    let mut random = Random::new(seed ^ 25);
+    for _ in 0..30_000 {
+        let seconds = random.below(6) as usize;
+        let bytes = streams::whole(&mut random, seconds);
+        let lengths = [0; 5].map(|_: usize| random.below(8) as usize);
+        read(comparison, &bytes, lengths);
+    }
+}
+
+/// Three streams of 8,192 seconds; each is read whole, and at each byte the item call sees the cut.
+fn every_prefix(comparison: &mut Comparison, seed: u64) {
+    let mut random = Random::new(seed ^ 26);
+    for _ in 0..3 {
+        let bytes = streams::whole(&mut random, TOO_MANY - 1);
+        read(comparison, &bytes, [TOO_MANY - 1; 5]);
+        let mut ours = Lanes::guarded([TOO_MANY - 1; 5]);
+        let untouched = ours.clone();
+        for end in 0..bytes.len() {
+            prefix(comparison, &bytes[..end], &mut ours, &untouched);
+        }
+    }
+}
+
+/// A cut stream: refused with nothing written, or readable because the cut lies between items.
+fn prefix(comparison: &mut Comparison, bytes: &[u8], ours: &mut Lanes, untouched: &Lanes) {
+    let got = library::read(
+        bytes,
+        library::Lanes {
+            states: &mut ours.states,
+            speeds: &mut ours.speeds,
+            altitudes: &mut ours.altitudes,
+            co2: &mut ours.co2,
+            nox: &mut ours.nox,
+        },
+    );
+    let mut wanted = ReadAnswer::default();
+    match paper::items(bytes, TOO_MANY - 1) {
+        Ok((plan, seconds)) => {
+            wanted.plan = plan_of(&plan);
+            wanted.seconds = seconds.len();
+        }
+        Err(refusal) => {
+            wanted.refusal = refusal.number;
+            wanted.place = refusal.place;
+        }
+    }
+    let written_only_if_read = got.refusal == 0 || *ours == *untouched;
+    if got.refusal == 0 {
+        ours.clone_from(untouched);
+    }
+    comparison.same((got, written_only_if_read), (wanted, true), || {
+        format!("the first {} bytes of a full stream", bytes.len())
+    });
+}
+
+fn too_many(comparison: &mut Comparison, seed: u64) {
+    let mut random = Random::new(seed ^ 27);
+    for (last, places) in [
+        (0, TOO_MANY),
+        (2, TOO_MANY),
+        (1, TOO_MANY),
+        (0, TOO_MANY - 1),
+        (2, 100),
+    ] {
+        let mut bytes = streams::whole(&mut random, TOO_MANY - 1);
+        bytes.extend(streams::second(&mut random, streams::MEASURED, last));
+        read(comparison, &bytes, [places; 5]);
+        bytes.pop();
+        read(comparison, &bytes, [places; 5]);
+    }
+}
