@@ -1,14 +1,13 @@
 -- Tallies and dynamics put together are the bins of the trip. Assumes nothing.
 use Prim.Native.Nat.{ℕ, _^_, _<_, _≤_}
-use mathlib.Core.Path.{_≡_, refl, sym, _∙_}
-use mathlib.Core.List.{List, [], _∷_}
+use mathlib.Core.Path.{_≡_, refl}
+use mathlib.Core.List.{List}
 use lib.ListN.{length, getD}
 use Rattle.base.specs.Limits.{tripLimit}
-use Rattle.tally.specs.Tally.{Room, binTallies, binTalliesAfter, wholeTally, added}
+use Rattle.tally.specs.Tally.{Room, binTallies, binTalliesAfter, added}
 use Rattle.tally.specs.Sets.{isPresent}
 use Rattle.tally.proofs.Tallies.{bins-add-up, tally-room}
 use Rattle.dynamics.specs.Dynamics.{judged, binDynamics, dynamicsOf}
-use Rattle.bins.specs.declared.Bin.{Bin}
 use Rattle.bins.specs.Bins.{binOf, binsOf, joinedAll, drivenIn}
 
 module _ (states speeds co2 nox : List ℕ) where

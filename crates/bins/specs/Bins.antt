@@ -1,7 +1,7 @@
 -- The bins of a trip: "for each of three bins, seconds, distance, CO2 and NOx (masses of state 1 only), M, T and Q".
 use Prim.Native.Nat.{ℕ, _≤_}
 use mathlib.Core.Path.{_≡_}
-use mathlib.Core.Bool.{Bool, false}
+use mathlib.Core.Bool.{false}
 use mathlib.Core.List.{List, [], _∷_}
 use lib.ListN.{length, getD}
 use Rattle.base.specs.Limits.{tripLimit}

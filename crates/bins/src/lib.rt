@@ -4,7 +4,6 @@ use dynamics::Driven;
 use dynamics::Figures;
 use tally::Tally;
 ghost use mathlib.Core.Path.{_≡_};
-ghost use Rattle.tally.specs.Tally.{Room, added};
 ghost use Rattle.dynamics.specs.Dynamics.{ranksOf};
 ghost use Rattle.bins.specs.Bins.{BinLanes, joined, joinedAll, drivenIn, binsOf};
 

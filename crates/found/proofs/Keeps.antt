@@ -1,7 +1,6 @@
 -- The kept lanes of a trip that can be searched can be swept, and judged once they are. Assumes nothing.
-use Prim.Native.Nat.{ℕ, _+_, _*_, _^_, _≤_, _<_}
-use mathlib.Core.Path.{_≡_, refl, sym, _∙_, ap}
-use mathlib.Core.Bool.{true}
+use Prim.Native.Nat.{ℕ, _+_, _*_, _≤_}
+use mathlib.Core.Path.{_≡_, refl, sym}
 use mathlib.Core.List.{List}
 use native.Mathlib.Nat.{le-refl}
 use native.Mathlib.Omega.{arith}
@@ -12,10 +11,9 @@ use lib.Seq.{take-at}
 use Rattle.base.specs.declared.Plan.{Plan}
 use Rattle.base.specs.Limits.{tripLimit, speedMost, co2Most, referenceMost}
 use Rattle.base.specs.Second.{measured}
-use Rattle.base.specs.Words.{sum}
 use Rattle.base.proofs.Products.{product-at-most}
 use Rattle.base.proofs.Sums.{sum-bound}
-use Rattle.kept.specs.Kept.{secondKept, withFront}
+use Rattle.kept.specs.Kept.{withFront}
 use Rattle.kept.proofs.Keeping.{kept-each, kept-both, kept-at-most}
 use Rattle.sweep.specs.Sweep.{beginning, endsAfter}
 use Rattle.sweep.specs.Window.{windows}

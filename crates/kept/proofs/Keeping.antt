@@ -1,10 +1,10 @@
 -- Laws of kept seconds: one second more, how many there are, and what holds of each. Assumes nothing.
 use Prim.Native.Nat.{ℕ, zero, suc, _+_, _≤_, _<_}
-use mathlib.Core.Path.{_≡_, refl, sym, _∙_, ap}
+use mathlib.Core.Path.{_≡_, refl, _∙_}
 use mathlib.Core.Bool.{Bool, true, false}
 use mathlib.Core.List.{List, [], _∷_, _++_}
 use native.Mathlib.Omega.{arith}
-use lib.ListN.{length, drop, getD, set, length-append, length-set}
+use lib.ListN.{length, getD, set, length-append, length-set}
 use Rattle.base.specs.Words.{pick, afterFirst}
 use Rattle.base.proofs.Seconds.{after-more}
 use Rattle.second.proofs.Store.{store-next}

@@ -1,5 +1,5 @@
 -- What the verdict says: each bit is set exactly when its rule holds, and it is zero exactly when none does. Assumes nothing.
-use Prim.Native.Nat.{ℕ, _^_}
+use Prim.Native.Nat.{_^_}
 use mathlib.Core.Path.{_≡_, refl, sym, _∙_}
 use mathlib.Core.Bool.{Bool, true, false, true≢false}
 use mathlib.Core.List.{map}

@@ -1,9 +1,9 @@
 -- Marking the reasons one after the other, each with a higher bit, makes the number of their bits. Assumes nothing.
-use Prim.Native.Nat.{ℕ, zero, suc, _+_, _*_, _^_, _<_}
-use mathlib.Core.Path.{_≡_, refl, sym, _∙_, ap}
+use Prim.Native.Nat.{ℕ, suc, _+_, _*_, _^_, _<_}
+use mathlib.Core.Path.{_≡_, sym, _∙_, ap}
 use mathlib.Core.Bool.{Bool, true, false}
 use mathlib.Core.List.{List, [], _∷_, map}
-use native.Mathlib.Nat.{pow-suc, mul-add, mul-assoc, mul-one, one-mul, zero-add}
+use native.Mathlib.Nat.{pow-suc, mul-add, mul-assoc, one-mul}
 use native.Mathlib.Omega.{arith}
 use lib.Bits.{bitOr, or-shifted-r}
 use Rattle.base.specs.Words.{pick}

@@ -1,6 +1,6 @@
 -- Each reason's test says its rule. Assumes nothing.
 use Prim.Native.Nat.{ℕ, _+_, _*_, _≤_, _<_}
-use mathlib.Core.Path.{_≡_, refl, sym, _∙_}
+use mathlib.Core.Path.{_≡_, refl}
 use mathlib.Core.Bool.{Bool, true, false, _&&_, _||_, false≢true}
 use mathlib.Core.Logic.{_⊎_, inl, inr, ⊎-elim}
 use borrow.Author.Tests.{ltb-true, leb-true, leb-false, eqb-true, lt-ltb, le-leb, eq-eqb}
@@ -24,7 +24,7 @@ pub record Says (test : Bool) (P : Type 0) : Type 0 where
 says-itself : (t : Bool) → Says t (t ≡ true)
 says-itself t = record { so = λ h. h; back = λ h. h }
 
-says-below : (a b : ℕ) → Says (ltb a b) (a < b)
+pub says-below : (a b : ℕ) → Says (ltb a b) (a < b)
 says-below a b = record { so = ltb-true a b; back = lt-ltb a b }
 
 says-at-most : (a b : ℕ) → Says (leb a b) (a ≤ b)
@@ -34,7 +34,7 @@ says-equal : (a b : ℕ) → Says (eqb a b) (a ≡ b)
 says-equal a b = record { so = eqb-true a b; back = eq-eqb a b }
 
 module _ {s t : Bool} {P Q : Type 0} (p : Says s P) (q : Says t Q) where
-  says-or : Says (s || t) (P ⊎ Q)
+  pub says-or : Says (s || t) (P ⊎ Q)
   says-or = record { so = so s t p q; back = back s t p q }
     where
       so : (s t : Bool) → Says s P → Says t Q → s || t ≡ true → P ⊎ Q

@@ -1,5 +1,5 @@
 -- Laws of the counts: one second more, and how large they grow. Assumes nothing.
-use Prim.Native.Nat.{ℕ, suc, _+_, _≤_, _<_}
+use Prim.Native.Nat.{ℕ, suc, _+_, _≤_}
 use mathlib.Core.Path.{_≡_, refl, sym, _∙_, ap}
 use mathlib.Core.Bool.{Bool, true, false, _&&_}
 use mathlib.Core.List.{List}
@@ -7,14 +7,12 @@ use native.Mathlib.Numerals.{add-one}
 use native.Mathlib.Omega.{arith}
 use borrow.Author.Tests.{ltb-true, le-leb}
 use lib.Dec.{leb, ltb, eqb}
-use lib.ListN.{length, getD}
+use lib.ListN.{getD}
 use Rattle.base.specs.Limits.{tripLimit}
-use Rattle.base.specs.Words.{pick, afterFirst}
+use Rattle.base.specs.Words.{afterFirst}
 use Rattle.base.proofs.Seconds.{after-more}
 use Rattle.second.specs.Bins.{urban, binOf}
-use Rattle.second.specs.Lanes.{hasValues}
-use Rattle.tally.specs.declared.Counts.{Counts}
-use Rattle.tally.specs.Sets.{sumOver, howMany, isMissing, isInBin, isAbove}
+use Rattle.tally.specs.Sets.{sumOver, isMissing, isAbove}
 use Rattle.tally.specs.Counts.{larger, gapWith, gapAfter, longestGap, isSlowUrban, countsAfter, countsWith, Few}
 use Rattle.tally.proofs.Sums.{sum-over-more, how-many-at-most}
 

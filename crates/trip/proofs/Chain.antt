@@ -1,5 +1,4 @@
 -- The refusals of a trip one after the other: what each test gives where those before it passed. Assumes nothing.
-use Prim.Native.Nat.{ℕ}
 use mathlib.Core.Path.{_≡_, refl}
 use mathlib.Core.Bool.{true, false}
 use lib.Dec.{ltb}

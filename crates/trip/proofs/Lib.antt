@@ -1,4 +1,7 @@
--- The laws of a whole trip.
+-- The laws and the theorems of a whole trip.
 pub mod Chain
 pub mod Passed
 pub mod Answers
+pub mod Refused
+pub mod Written
+pub mod Theorems

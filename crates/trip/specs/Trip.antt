@@ -10,9 +10,7 @@ use Rattle.base.specs.Words.{pick}
 use Rattle.second.specs.declared.Fault.{Fault}
 use Rattle.second.specs.Bins.{urban, rural, motorway}
 use Rattle.second.specs.Lanes.{Lanes}
-use Rattle.windows.specs.declared.ClassCount.{ClassCount}
 use Rattle.windows.specs.Counts.{noCount}
-use Rattle.tally.specs.declared.Tally.{Tally}
 use Rattle.tally.specs.declared.Counts.{Counts}
 use Rattle.tally.specs.Tally.{noSeconds}
 use Rattle.tally.specs.Counts.{countsOf}

@@ -9,8 +9,7 @@ use reasons::Figures;
 use reasons::Part;
 use tally::Counts;
 ghost use mathlib.Core.Path.{_≡_};
-ghost use Prim.Native.Nat.{_≤_};
-ghost use Rattle.climb.specs.Climb.{ClimbLanes, climbMost};
+ghost use Rattle.climb.specs.Climb.{ClimbLanes};
 ghost use Rattle.trip.specs.Trip.{partOf, partsOf, figuresFrom, answerFrom, concluded};
 
 // The answer from the lanes, the windows and the bins.

@@ -1,0 +1,159 @@
+-- Refused exactly when: each number and place is given exactly when its condition holds and none before it in the order does.
+-- Assumes nothing.
+use Prim.Native.Nat.{ℕ, _≤_, _<_}
+use mathlib.Core.Path.{_≡_, refl, sym, _∙_, ap}
+use mathlib.Core.Bool.{Bool, true, false, not, false≢true}
+use mathlib.Core.Logic.{_⊎_, _↔_}
+use native.Mathlib.Nat.{le-refl}
+use native.Mathlib.Omega.{arith}
+use borrow.Author.Tests.{ltb-true, ltb-false, lt-ltb, le-ltb, eq-eqb, eqb-true, not-true}
+use lib.Dec.{ltb}
+use lib.ListN.{getD}
+use Rattle.base.specs.declared.Plan.{Plan}
+use Rattle.base.specs.Limits.{tripLimit}
+use Rattle.base.specs.Plan.{planInRange}
+use Rattle.base.specs.Refusal.{outOfRange}
+use Rattle.base.specs.Second.{tooMany}
+use Rattle.base.specs.Words.{firstBad}
+use Rattle.base.proofs.FirstBad.{first-bad}
+use Rattle.second.specs.declared.Fault.{Fault}
+use Rattle.second.specs.Lanes.{Lanes, secondsIn, lanesAgree, SameLengths, hasValues, secondInRange, firstBadSecond, noneHasValues}
+use Rattle.second.proofs.Lanes.{agree, each-in-range, none-has}
+use Rattle.second.proofs.Search.{stops-at, comes-to}
+use Rattle.reasons.proofs.Says.{Says, says-or, says-below}
+use Rattle.trip.specs.declared.Rooms.{Rooms}
+use Rattle.trip.specs.Refusals.{tooShort, fault, tripFault, isAccepted}
+use Rattle.trip.specs.Trip.{answerOf, refused, concluded, answerFrom}
+use Rattle.trip.proofs.Chain.{gives-plan, gives-differ, gives-many, gives-short, gives-bad, gives-none, gives-accepted}
+use Rattle.trip.proofs.Passed.{Places, places, Outcome, outcome}
+
+-- "a lane to be written is too short": a lent lane has no place for one of n seconds
+abbrev pub TooShort : Rooms → ℕ → Type 0
+TooShort rooms n = (((rooms .speeds < n) ⊎ (rooms .co2 < n)) ⊎ (rooms .ends < n)) ⊎ (rooms .ranks < n)
+
+-- "a state or value out of range": this second is the first that is
+pub record FirstBadAt (trip : Lanes) (i : ℕ) : Type 0 where
+  pub within : i < secondsIn trip
+  pub bad : secondInRange trip i ≡ false
+  pub before : (k : ℕ) → k < i → secondInRange trip k ≡ true
+
+-- every second is in range
+abbrev pub AllInRange : Lanes → Type 0
+AllInRange trip = (i : ℕ) → i < secondsIn trip → secondInRange trip i ≡ true
+
+-- "no second in state 1 or 3"
+abbrev pub NoSecond : Lanes → Type 0
+NoSecond trip = (i : ℕ) → i < secondsIn trip → hasValues (getD (trip .states) i 0) ≡ false
+
+-- what is given, in the order 5, 1, 2, 6, 3, 4: the number and the place, with the conditions
+pub data Given (plan : Plan) (trip : Lanes) (rooms : Rooms) : Fault → Type 0 where
+  plan-out-of-range : planInRange plan ≡ false → Given plan trip rooms (fault 5 0)
+  lanes-differ : planInRange plan ≡ true → (SameLengths trip → ⊥) → Given plan trip rooms (fault 1 0)
+  too-many : planInRange plan ≡ true → SameLengths trip → tripLimit < secondsIn trip → Given plan trip rooms (fault 2 0)
+  lane-too-short : planInRange plan ≡ true → SameLengths trip → secondsIn trip ≤ tripLimit → TooShort rooms (secondsIn trip) → Given plan trip rooms (fault 6 0)
+  out-of-range : planInRange plan ≡ true → SameLengths trip → secondsIn trip ≤ tripLimit → Places rooms (secondsIn trip) → (i : ℕ) → FirstBadAt trip i → Given plan trip rooms (fault 3 i)
+  no-second : planInRange plan ≡ true → SameLengths trip → secondsIn trip ≤ tripLimit → Places rooms (secondsIn trip) → AllInRange trip → NoSecond trip → Given plan trip rooms (fault 4 0)
+  none : planInRange plan ≡ true → SameLengths trip → secondsIn trip ≤ tripLimit → Places rooms (secondsIn trip) → AllInRange trip → (NoSecond trip → ⊥) → Given plan trip rooms (fault 0 0)
+
+-- ---- each test says its condition
+same-agrees : (trip : Lanes) → SameLengths trip → lanesAgree trip ≡ true
+unfolding lanesAgree
+same-agrees trip same =
+    rw (eq-eqb _ _ (same .speeds), eq-eqb _ _ (same .altitudes), eq-eqb _ _ (same .co2), eq-eqb _ _ (same .nox)) refl
+
+says-short : (rooms : Rooms) (n : ℕ) → Says (tooShort rooms n) (TooShort rooms n)
+unfolding tooShort
+says-short rooms n =
+    says-or (says-or (says-or (says-below (rooms .speeds) n) (says-below (rooms .co2) n)) (says-below (rooms .ends) n)) (says-below (rooms .ranks) n)
+
+room-enough : (rooms : Rooms) (n : ℕ) → Places rooms n → tooShort rooms n ≡ false
+unfolding tooShort
+room-enough rooms n p =
+    rw (le-ltb _ _ (p .for-speeds), le-ltb _ _ (p .for-co2), le-ltb _ _ (p .for-ends), le-ltb _ _ (p .for-ranks)) refl
+
+first-bad-at : (trip : Lanes) → firstBadSecond trip < secondsIn trip → FirstBadAt trip (firstBadSecond trip)
+unfolding firstBadSecond
+first-bad-at trip h =
+    let is = first-bad (secondInRange trip) (secondsIn trip) in
+    record { within = h; bad = is .there h; before = is .before }
+
+is-first-bad : (trip : Lanes) (i : ℕ) → FirstBadAt trip i → firstBadSecond trip ≡ i
+unfolding firstBadSecond
+is-first-bad trip i at = stops-at (secondInRange trip) (secondsIn trip) i (at .within) (at .before) (at .bad)
+
+all-good : (trip : Lanes) → AllInRange trip → ltb (firstBadSecond trip) (secondsIn trip) ≡ false
+unfolding firstBadSecond
+all-good trip all =
+    let end : firstBad (secondInRange trip) (secondsIn trip) ≡ secondsIn trip = comes-to (secondInRange trip) (secondsIn trip) (secondsIn trip) (le-refl _) (le-refl _) all in
+    rw end (le-ltb (secondsIn trip) (secondsIn trip) (le-refl _))
+
+none-says : (trip : Lanes) → NoSecond trip → noneHasValues (trip .states) ≡ true
+none-says trip all =
+    none-has (trip .states) (secondsIn trip) (le-refl _) (le-refl _)
+    (comes-to (λ k. not (hasValues (getD (trip .states) k 0))) (secondsIn trip) (secondsIn trip) (le-refl _) (le-refl _) (λ k h. ap not (all k h)))
+
+says-none : (trip : Lanes) → noneHasValues (trip .states) ≡ true → NoSecond trip
+unfolding noneHasValues
+says-none trip q i h =
+    let first = first-bad (λ k. not (hasValues (getD (trip .states) k 0))) (secondsIn trip) in
+    let end : firstBad (λ k. not (hasValues (getD (trip .states) k 0))) (secondsIn trip) ≡ secondsIn trip = eqb-true _ _ q in
+    not-true _ (first .before i (omega arith))
+
+some-says : (trip : Lanes) (t : Bool) → noneHasValues (trip .states) ≡ t → (NoSecond trip → ⊥) → noneHasValues (trip .states) ≡ false
+some-says trip true q some = absurd (some (says-none trip q))
+some-says trip false q some = q
+
+module _ (plan : Plan) (trip : Lanes) (rooms : Rooms) where
+  -- what the chain of tests gives is given
+  is-given : Given plan trip rooms (tripFault plan trip rooms)
+  is-given = go (tripFault plan trip rooms) (outcome plan trip rooms)
+    where
+      few : tooMany (secondsIn trip) ≡ false → secondsIn trip ≤ tripLimit
+      few r = ltb-false tripLimit (secondsIn trip) r
+
+      differ : lanesAgree trip ≡ false → SameLengths trip → ⊥
+      differ q same = false≢true (sym q ∙ same-agrees trip same)
+
+      go : (x : Fault) → Outcome plan trip rooms x → Given plan trip rooms x
+      go _ (Outcome.bad-plan p) = plan-out-of-range p
+      go _ (Outcome.lanes-differ p q) = lanes-differ p (differ q)
+      go _ (Outcome.too-many p q r) = too-many p (agree trip q) (ltb-true tripLimit (secondsIn trip) r)
+      go _ (Outcome.too-short p q r s) = lane-too-short p (agree trip q) (few r) (says-short rooms (secondsIn trip) .so s)
+      go _ (Outcome.bad-second p q r s t) = out-of-range p (agree trip q) (few r) (places rooms (secondsIn trip) s) (firstBadSecond trip) (first-bad-at trip (ltb-true (firstBadSecond trip) (secondsIn trip) t))
+      go _ (Outcome.no-second p q r s t u) = no-second p (agree trip q) (few r) (places rooms (secondsIn trip) s) (each-in-range trip (ltb-false (firstBadSecond trip) (secondsIn trip) t)) (says-none trip u)
+      go _ (Outcome.fine p q r s t u) = none p (agree trip q) (few r) (places rooms (secondsIn trip) s) (each-in-range trip (ltb-false (firstBadSecond trip) (secondsIn trip) t)) (λ all. false≢true (sym u ∙ none-says trip all))
+
+  -- and nothing else is
+  only-given : (x : Fault) → Given plan trip rooms x → tripFault plan trip rooms ≡ x
+  only-given _ (plan-out-of-range p) = gives-plan plan trip rooms p
+  only-given _ (lanes-differ p q) = gives-differ plan trip rooms p (apart (lanesAgree trip) refl)
+    where
+      apart : (t : Bool) → lanesAgree trip ≡ t → lanesAgree trip ≡ false
+      apart true e = absurd (q (agree trip e))
+      apart false e = e
+  only-given _ (too-many p q r) = gives-many plan trip rooms p (same-agrees trip q) (lt-ltb tripLimit (secondsIn trip) r)
+  only-given _ (lane-too-short p q r s) = gives-short plan trip rooms p (same-agrees trip q) (le-ltb tripLimit (secondsIn trip) r) (says-short rooms (secondsIn trip) .back s)
+  only-given _ (out-of-range p q r s i t) =
+      let here : firstBadSecond trip ≡ i = is-first-bad trip i t in
+      let below : ltb (firstBadSecond trip) (secondsIn trip) ≡ true = rw here (lt-ltb i (secondsIn trip) (t .within)) in
+      gives-bad plan trip rooms p (same-agrees trip q) (le-ltb tripLimit (secondsIn trip) r) (room-enough rooms (secondsIn trip) s) below ∙ ap (fault outOfRange) here
+  only-given _ (no-second p q r s t u) = gives-none plan trip rooms p (same-agrees trip q) (le-ltb tripLimit (secondsIn trip) r) (room-enough rooms (secondsIn trip) s) (all-good trip t) (none-says trip u)
+  only-given _ (none p q r s t u) = gives-accepted plan trip rooms p (same-agrees trip q) (le-ltb tripLimit (secondsIn trip) r) (room-enough rooms (secondsIn trip) s) (all-good trip t) (some-says trip (noneHasValues (trip .states)) refl u)
+
+  -- the call gives a number and a place exactly when the conditions of that row hold
+  pub refused-exactly : (x : Fault) → (tripFault plan trip rooms ≡ x) ↔ Given plan trip rooms x
+  refused-exactly x = (λ e. rw e at is-given, only-given x)
+
+  -- the answer's number and place are those of the chain of tests
+  pub answer-fault : fault (answerOf plan trip rooms .refusal) (answerOf plan trip rooms .place) ≡ tripFault plan trip rooms
+  unfolding answerOf isAccepted refused concluded answerFrom
+  answer-fault = go (tripFault plan trip rooms) refl (outcome plan trip rooms)
+    where
+      go : (x : Fault) → tripFault plan trip rooms ≡ x → Outcome plan trip rooms x → fault (answerOf plan trip rooms .refusal) (answerOf plan trip rooms .place) ≡ tripFault plan trip rooms
+      go _ e (Outcome.bad-plan p) = rw e refl
+      go _ e (Outcome.lanes-differ p q) = rw e refl
+      go _ e (Outcome.too-many p q r) = rw e refl
+      go _ e (Outcome.too-short p q r s) = rw e refl
+      go _ e (Outcome.bad-second p q r s t) = rw e refl
+      go _ e (Outcome.no-second p q r s t u) = rw e refl
+      go _ e (Outcome.fine p q r s t u) = rw e refl
