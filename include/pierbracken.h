@@ -36,6 +36,14 @@ enum {
     PB_STATE_NOT_REACHED = 13  /* sweep state that these kept seconds never reach */
 };
 
+/* ---- what "valid" means ---- */
+
+/*
+ * The release of the meaning: the entry of docs/VALID.md by which this build answers. It changes
+ * whenever a figure, a reason or a refusal does: store it beside a verdict.
+ */
+uint32_t pb_meaning(void);
+
 /* ---- from concentration to mass ---- */
 
 /* The kind of a reading of the gas bench, and the range of its value. */

@@ -162,6 +162,7 @@ static void dynamics(void)
 
 int main(void)
 {
+    expect(pb_meaning() == 1, "release 1 of the meaning");
     layout();
     mass();
     printed_case();

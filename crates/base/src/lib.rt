@@ -3,6 +3,7 @@
 // (specs/); the proofs of the tests below hold the two together.
 
 pub mod limits;
+pub mod meaning;
 pub mod refusal;
 pub mod state;
 

@@ -1,6 +1,7 @@
 //! The library beside plain safe Rust that does the same: one run, ratios printed.
 
 mod mass;
+mod percentile;
 mod plain_trip;
 mod stream;
 mod sweep;
@@ -9,11 +10,20 @@ mod trip;
 
 fn main() {
     println!(
-        "{:<44} {:>10} {:>10} {:>7}",
+        "{:<48} {:>10} {:>10} {:>7}",
         "work", "ours", "Rust", "ratio"
     );
     mass::bench();
-    stream::bench();
-    sweep::bench();
-    trip::bench();
+    let growths = [
+        stream::bench(),
+        sweep::bench(),
+        percentile::bench(),
+        trip::bench(),
+    ];
+    println!();
+    println!(
+        "{:<48} {:>10} {:>10}",
+        "growth from 1,024 to 8,192 (8.0 is linear)", "ours", "Rust"
+    );
+    growths.iter().for_each(timing::print_growth);
 }

@@ -60,6 +60,7 @@ fn ours(steps: &[Step]) -> u64 {
 }
 
 fn theirs(steps: &[Step]) -> u64 {
+    let plain: extern "C" fn(u8, f64, Setting) -> MassAnswer = std::hint::black_box(plain);
     steps
         .iter()
         .map(|s| folded(plain(s.kind, s.value, s.setting)))
@@ -70,8 +71,8 @@ fn folded(answer: MassAnswer) -> u64 {
     u64::from(answer.mass) + u64::from(answer.refusal) + answer.place as u64
 }
 
-/// The CO2 mass in plain Rust, called as the library is: a C function of its own.
-#[inline(never)]
+/// The CO2 mass in plain Rust, called as the library is: a C function of its own, of which its
+/// caller knows nothing.
 extern "C" fn plain(kind: u8, value: f64, setting: Setting) -> MassAnswer {
     let refused = |refusal| MassAnswer {
         refusal,
@@ -95,7 +96,7 @@ extern "C" fn plain(kind: u8, value: f64, setting: Setting) -> MassAnswer {
         2 => value * 10_000.0,
         _ => value * 10_000.0 * setting.factor,
     };
-    let whole = (setting.u * wet * setting.flow * 1_000.0) as u64;
+    let whole = whole_part(setting.u * wet * setting.flow * 1_000.0);
     if whole > 100_000 {
         return refused(10);
     }
@@ -104,4 +105,14 @@ extern "C" fn plain(kind: u8, value: f64, setting: Setting) -> MassAnswer {
         mass: whole as u32,
         place: 0,
     }
+}
+
+/// The whole part of a number from 0 to below 2^53, found from its bits as the paper asks.
+fn whole_part(x: f64) -> u64 {
+    if x < 1.0 {
+        return 0;
+    }
+    let bits = x.to_bits();
+    let digits = bits & ((1 << 52) - 1) | 1 << 52;
+    digits >> (1_075 - (bits >> 52))
 }

@@ -2,16 +2,16 @@
 
 use library::{SweepAnswer, SweepState};
 
-use crate::timing::against;
+use crate::timing::{against, Growth};
 
 const REFERENCE: u32 = 1_200_000;
 
-pub fn bench() {
-    for kept in [1_024, 8_192] {
+pub fn bench() -> Growth {
+    let [small, large] = [1_024, 8_192].map(|kept| {
         let co2 = masses(kept);
         let mut ours = vec![0u16; kept];
         let mut theirs = vec![0u16; kept];
-        against(
+        let took = against(
             &format!("50 sweeps of {kept} kept seconds"),
             || {
                 (0..50)
@@ -41,6 +41,12 @@ pub fn bench() {
             },
         );
         assert_eq!(ours, theirs);
+        took
+    });
+    Growth {
+        work: "a sweep",
+        small,
+        large,
     }
 }
 

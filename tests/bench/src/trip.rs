@@ -3,7 +3,7 @@
 use library::{Bin, Class, Lent, Plan, Tally, Trip, TripAnswer};
 
 use crate::plain_trip;
-use crate::timing::against;
+use crate::timing::{against, best, print, Growth, Took};
 
 /// A trip's lanes, and the lanes that it lends.
 struct Lanes {
@@ -19,7 +19,7 @@ struct Lanes {
 }
 
 const PLAN: Plan = Plan {
-    reference: 1_200_000,
+    reference: 1_900_000,
     e1: 150_000,
     e2: 140_000,
     e3: 160_000,
@@ -29,37 +29,72 @@ const PLAN: Plan = Plan {
     motorway: 40,
 };
 
-pub fn bench() {
-    for (name, seconds, worst) in [
-        ("a trip of 1,024 seconds", 1_024, false),
-        ("a trip of 7,200 seconds", 7_200, false),
-        ("a trip of 8,192 seconds", 8_192, false),
-        (
-            "8,192 seconds, every one accelerating or longest windows",
-            8_192,
-            true,
-        ),
-    ] {
-        let mut ours = lanes(seconds, worst);
-        let mut theirs = lanes(seconds, worst);
-        against(
-            name,
-            || folded(evaluate(&mut ours)),
-            || folded(plain(&mut theirs)),
-        );
-        assert!(ours.ranks == theirs.ranks && ours.ends == theirs.ends);
-        assert_eq!(evaluate(&mut ours), plain(&mut theirs));
+/// A reference that no window of these trips reaches.
+const NO_WINDOWS: Plan = Plan {
+    reference: 20_000_000,
+    ..PLAN
+};
+
+pub fn bench() -> Growth {
+    let small = timed("a trip of 1,024 seconds", 1_024, drive);
+    timed("a trip of 7,200 seconds", 7_200, drive);
+    let large = timed("a trip of 8,192 seconds", 8_192, drive);
+    timed(
+        "8,192 seconds, long windows, all accelerating",
+        8_192,
+        worst,
+    );
+    figures();
+    Growth {
+        work: "a trip",
+        small,
+        large,
     }
 }
 
-fn evaluate(lanes: &mut Lanes) -> TripAnswer {
-    let (trip, lent) = parts(lanes);
-    library::evaluate(PLAN, trip, lent)
+/// Times the evaluation of a trip, and compares all that it answers and writes.
+fn timed(name: &str, seconds: usize, second: fn(&mut Drive, usize) -> (u16, u32)) -> Took {
+    let mut ours = lanes(seconds, second);
+    let mut theirs = lanes(seconds, second);
+    let took = against(
+        name,
+        || folded(evaluate(PLAN, &mut ours)),
+        || folded(plain(PLAN, &mut theirs)),
+    );
+    assert!(ours.ranks == theirs.ranks && ours.ends == theirs.ends);
+    assert_eq!(evaluate(PLAN, &mut ours), plain(PLAN, &mut theirs));
+    took
 }
 
-fn plain(lanes: &mut Lanes) -> TripAnswer {
+/// The figures of a trip's windows alone: what the trip takes more than the same trip without one.
+fn figures() {
+    let mut ours = lanes(7_200, drive);
+    let mut theirs = lanes(7_200, drive);
+    let [with, without] = [PLAN, NO_WINDOWS].map(|plan| {
+        best(
+            "figures",
+            || folded(evaluate(plan, &mut ours)),
+            || folded(plain(plan, &mut theirs)),
+        )
+    });
+    let answer = evaluate(PLAN, &mut ours);
+    assert_eq!(evaluate(NO_WINDOWS, &mut ours).windows, 0);
+    let name = format!(
+        "the figures of {} windows of about {} s",
+        answer.windows,
+        answer.kept - answer.windows
+    );
+    print(&name, with.less(without));
+}
+
+fn evaluate(plan: Plan, lanes: &mut Lanes) -> TripAnswer {
     let (trip, lent) = parts(lanes);
-    plain_trip::evaluate(PLAN, trip, lent)
+    library::evaluate(plan, trip, lent)
+}
+
+fn plain(plan: Plan, lanes: &mut Lanes) -> TripAnswer {
+    let (trip, lent) = parts(lanes);
+    plain_trip::evaluate(plan, trip, lent)
 }
 
 fn parts(lanes: &mut Lanes) -> (Trip<'_>, Lent<'_>) {
@@ -80,39 +115,49 @@ fn parts(lanes: &mut Lanes) -> (Trip<'_>, Lent<'_>) {
     )
 }
 
-/// A drive: speeds that wander through the three bins, CO2 that follows them; or the worst kind.
-fn lanes(seconds: usize, worst: bool) -> Lanes {
-    let mut state = 2017_1151u64;
-    let mut random = move |end: u64| {
-        state = state
+/// A drive under way.
+struct Drive {
+    seconds: usize,
+    speed: i64,
+    state: u64,
+}
+
+impl Drive {
+    fn random(&mut self, end: u64) -> u64 {
+        self.state = self
+            .state
             .wrapping_mul(6_364_136_223_846_793_005)
             .wrapping_add(1_442_695_040_888_963_407);
-        (state >> 33) % end
+        (self.state >> 33) % end
+    }
+}
+
+/// Speed and CO2 of a second: speeds that wander through the three bins, CO2 that follows them.
+fn drive(drive: &mut Drive, i: usize) -> (u16, u32) {
+    let aim = [3_000, 7_500, 12_000][i * 3 / drive.seconds];
+    let shake = drive.random(301) as i64 - 150;
+    drive.speed = (drive.speed + (aim - drive.speed) / 20 + shake).clamp(0, 15_900);
+    let co2 = drive.speed as u32 / 6 + drive.random(400) as u32;
+    (drive.speed as u16, co2)
+}
+
+/// The worst kind found: nearly every second accelerates, and windows are long.
+fn worst(_: &mut Drive, i: usize) -> (u16, u32) {
+    ((i * 97 % 16_000) as u16, 300)
+}
+
+fn lanes(seconds: usize, second: fn(&mut Drive, usize) -> (u16, u32)) -> Lanes {
+    let mut drive = Drive {
+        seconds,
+        speed: 0,
+        state: 2017_1151,
     };
-    let mut speed = 0i64;
-    let speeds: Vec<u16> = (0..seconds)
-        .map(|i| {
-            let aim = [3_000, 7_500, 12_000][i * 3 / seconds];
-            speed = (speed + (aim - speed) / 20 + random(301) as i64 - 150).clamp(0, 15_900);
-            if worst {
-                (i * 97 % 16_000) as u16
-            } else {
-                speed as u16
-            }
-        })
-        .collect();
-    let co2 = |v: &u16| {
-        if worst {
-            300
-        } else {
-            u32::from(*v) / 6 + random(400) as u32
-        }
-    };
+    let (speeds, co2) = (0..seconds).map(|i| second(&mut drive, i)).unzip();
     Lanes {
         states: vec![1; seconds],
-        co2: speeds.iter().map(co2).collect(),
         speeds,
         altitudes: (0..seconds).map(|i| 20_000 + (i as i32 % 200)).collect(),
+        co2,
         nox: vec![900; seconds],
         kept_speeds: vec![0; seconds],
         kept_co2: vec![0; seconds],

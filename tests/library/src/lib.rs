@@ -11,6 +11,12 @@ pub use raw::{
     Setting, SweepAnswer, SweepState, Tally, TripAnswer,
 };
 
+/// The release of the meaning of "valid" by which this build answers.
+pub fn meaning() -> u32 {
+    // Safety: a plain number comes out.
+    unsafe { raw::pb_meaning() }
+}
+
 /// The CO2 mass of a second, in mg, from a reading of a kind 0 to 3 and its value.
 pub fn mass_co2(kind: u8, value: f64, setting: Setting) -> MassAnswer {
     // Safety: plain numbers go in and come out.

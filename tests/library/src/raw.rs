@@ -148,6 +148,7 @@ pub struct TripAnswer {
 }
 
 extern "C" {
+    pub fn pb_meaning() -> u32;
     pub fn pb_mass_co2(kind: u8, value: f64, setting: Setting) -> MassAnswer;
     pub fn pb_mass_nox(kind: u8, value: f64, setting: Setting) -> MassAnswer;
     pub fn pb_item(bytes: *const u8, count: usize) -> ItemAnswer;
