@@ -7,12 +7,12 @@ use Rattle.base.specs.Limits.{tripLimit}
 use Rattle.tally.specs.Tally.{Room, binTallies, binTalliesAfter, added}
 use Rattle.tally.specs.Sets.{isPresent}
 use Rattle.tally.proofs.Tallies.{bins-add-up, tally-room}
-use Rattle.dynamics.specs.Dynamics.{judged, binDynamics, dynamicsOf}
-use Rattle.bins.specs.Bins.{binOf, binsOf, joinedAll, drivenIn}
+use Rattle.dynamics.specs.Dynamics.{binDynamics, dynamicsOf}
+use Rattle.bins.specs.Bins.{binOf, binsOf, joinedAll}
 
 module _ (states speeds co2 nox : List ℕ) where
-  pub joins : joinedAll (binTallies states speeds co2 nox) (dynamicsOf (drivenIn (binTallies states speeds co2 nox)) states speeds) ≡ binsOf states speeds co2 nox .each
-  unfolding joinedAll binTalliesAfter dynamicsOf binDynamics judged binsOf binOf
+  pub joins : joinedAll (binTallies states speeds co2 nox) (dynamicsOf states speeds) ≡ binsOf states speeds co2 nox .each
+  unfolding joinedAll binTalliesAfter dynamicsOf binDynamics binsOf binOf
   joins = refl
 
   pub totals : added (binTallies states speeds co2 nox) ≡ binsOf states speeds co2 nox .total

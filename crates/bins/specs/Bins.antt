@@ -1,7 +1,6 @@
 -- The bins of a trip: "for each of three bins, seconds, distance, CO2 and NOx (masses of state 1 only), M, T and Q".
 use Prim.Native.Nat.{ℕ, _≤_}
 use mathlib.Core.Path.{_≡_}
-use mathlib.Core.Bool.{false}
 use mathlib.Core.List.{List, [], _∷_}
 use lib.ListN.{length, getD}
 use Rattle.base.specs.Limits.{tripLimit}
@@ -12,7 +11,6 @@ use Rattle.tally.specs.Sets.{isInBin}
 use Rattle.tally.specs.Tally.{noSeconds, tallyOver, wholeTally}
 use Rattle.acceleration.specs.Products.{productsOf}
 use Rattle.percentile.specs.Percentile.{qOrZero}
-use Rattle.dynamics.specs.declared.Driven.{Driven}
 use Rattle.dynamics.specs.declared.Figures.{Figures}
 use Rattle.bins.specs.declared.Bin.{Bin}
 use Rattle.bins.specs.declared.Bins.{Bins}
@@ -57,24 +55,13 @@ joined tally figures =
     }
 
 abbrev pub noFigures : Figures
-noFigures = record { m = 0; t = 0; q = 0; lively = false; dull = false }
+noFigures = record { m = 0; t = 0; q = 0 }
 
 unfoldable pub joinedAll : List Tally → List Figures → List Bin
 joinedAll tallies figures =
     joined (getD tallies urban noSeconds) (getD figures urban noFigures)
     ∷ joined (getD tallies rural noSeconds) (getD figures rural noFigures)
     ∷ joined (getD tallies motorway noSeconds) (getD figures motorway noFigures)
-    ∷ []
-
--- the sums of seconds and speeds of three tallies
-abbrev pub driven : Tally → Driven
-driven tally = record { seconds = tally .seconds; distance = tally .distance }
-
-unfoldable pub drivenIn : List Tally → List Driven
-drivenIn tallies =
-    driven (getD tallies urban noSeconds)
-    ∷ driven (getD tallies rural noSeconds)
-    ∷ driven (getD tallies motorway noSeconds)
     ∷ []
 
 -- what the bins are asked of: lanes of one length, no more than a trip's, and a place per second for the ranks

@@ -1,11 +1,10 @@
 // The bins of a trip: for each its tally and its dynamics, and the totals of the tallies.
 
-use dynamics::Driven;
 use dynamics::Figures;
 use tally::Tally;
 ghost use mathlib.Core.Path.{_≡_};
 ghost use Rattle.dynamics.specs.Dynamics.{ranksOf};
-ghost use Rattle.bins.specs.Bins.{BinLanes, joined, joinedAll, drivenIn, binsOf};
+ghost use Rattle.bins.specs.Bins.{BinLanes, joined, joinedAll, binsOf};
 
 // A bin of the answer.
 #[repr(C)]
@@ -34,34 +33,11 @@ pub fn measure(states: &[u8], speeds: &[u16], co2: &[u32], nox: &[u32], ranks: &
 {
     let tallies = tally::tally_bins(states, speeds, co2, nox);
     let total = tally::total(tallies);
-    let figures = dynamics::dynamics(states, speeds, driven_in(tallies), ranks);
+    let figures = dynamics::dynamics(states, speeds, ranks);
     Bins {
         each: join(tallies, figures),
         total,
     }
-}
-
-// The sums of seconds and speeds of the bins.
-fn driven_in(tallies: [Tally; 3]) -> [Driven; 3]
-    ensures { λ r. ⌜ r ≡ drivenIn tallies ⌝ }
-{
-    let urban = tallies[second::URBAN];
-    let rural = tallies[second::RURAL];
-    let motorway = tallies[second::MOTORWAY];
-    [
-        Driven {
-            seconds: urban.seconds,
-            distance: urban.distance,
-        },
-        Driven {
-            seconds: rural.seconds,
-            distance: rural.distance,
-        },
-        Driven {
-            seconds: motorway.seconds,
-            distance: motorway.distance,
-        },
-    ]
 }
 
 // The bins from their tallies and dynamics.

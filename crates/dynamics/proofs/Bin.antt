@@ -12,9 +12,8 @@ use Rattle.acceleration.specs.Products.{productsOf, figuresOf}
 use Rattle.acceleration.proofs.Writing.{products-at-most}
 use Rattle.percentile.specs.Percentile.{qOrZero}
 use Rattle.percentile.proofs.Front.{filled-length, filled-front, filled-rest}
-use Rattle.dynamics.specs.declared.Driven.{Driven}
 use Rattle.dynamics.specs.declared.Figures.{Figures}
-use Rattle.dynamics.specs.Dynamics.{judged, binDynamics}
+use Rattle.dynamics.specs.Dynamics.{binDynamics}
 
 module _ (bin : ℕ) (states speeds lane : List ℕ) (room : length (productsOf bin states speeds) ≤ length lane) {products : Products} {written : List ℕ} (is : products ≡ figuresOf (productsOf bin states speeds)) (w : written ≡ productsOf bin states speeds ++ drop (length (productsOf bin states speeds)) lane) where
   pub count-is : products .count ≡ length (productsOf bin states speeds)
@@ -37,9 +36,9 @@ module _ (bin : ℕ) (states speeds lane : List ℕ) (room : length (productsOf 
   rest : drop (products .count) written ≡ drop (length (productsOf bin states speeds)) lane
   rest = ap (λ (n : ℕ). drop n written) count-is ∙ filled-rest (productsOf bin states speeds) lane room w
 
-  pub figures-are : (driven : Driven) {q : ℕ} {r : Figures} → q ≡ qOrZero (take (products .count) written) → r ≡ judged driven (products .count) (products .total) q → r ≡ binDynamics bin driven states speeds
+  pub figures-are : {q : ℕ} → q ≡ qOrZero (take (products .count) written) → record { m = products .count; t = products .total; q = q } ≡ binDynamics bin states speeds
   unfolding binDynamics
-  figures-are driven e j = j ∙ rw (count-is, total-is, e, front) refl
+  figures-are e = rw (count-is, total-is, e, front) refl
 
   pub lane-is : {ranked : List ℕ} → ranked ≡ sort (take (products .count) written) ++ drop (products .count) written → ranked ≡ sort (productsOf bin states speeds) ++ drop (length (productsOf bin states speeds)) lane
   lane-is e = e ∙ ap₂ (λ (f r : List ℕ). sort f ++ r) front rest

@@ -8,17 +8,16 @@ use Rattle.second.specs.Bins.{urban, rural, motorway}
 use Rattle.rank.specs.Sort.{sort}
 use Rattle.rank.proofs.Laws.{sort-length}
 use Rattle.acceleration.specs.Products.{SpeedLanes, productsOf}
-use Rattle.dynamics.specs.declared.Driven.{Driven}
 use Rattle.dynamics.specs.declared.Figures.{Figures}
-use Rattle.dynamics.specs.Dynamics.{DynamicsLanes, judged, binDynamics, placed, drivenIn, dynamicsOf, ranksOf}
+use Rattle.dynamics.specs.Dynamics.{DynamicsLanes, binDynamics, placed, dynamicsOf, ranksOf}
 use Rattle.dynamics.proofs.Room.{room}
 use Rattle.dynamics.proofs.Places.{filled-long, filled-next}
 
-m-is : (bin : ℕ) (driven : Driven) (states speeds : List ℕ) {f : Figures} → f ≡ binDynamics bin driven states speeds → f .m ≡ length (productsOf bin states speeds)
-unfolding binDynamics judged
-m-is bin driven states speeds e = ap (λ f. f .m) e
+m-is : (bin : ℕ) (states speeds : List ℕ) {f : Figures} → f ≡ binDynamics bin states speeds → f .m ≡ length (productsOf bin states speeds)
+unfolding binDynamics
+m-is bin states speeds e = ap (λ f. f .m) e
 
-module _ (driven : List Driven) (states speeds ranks : List ℕ) (lanes : DynamicsLanes states speeds ranks) where
+module _ (states speeds ranks : List ℕ) (lanes : DynamicsLanes states speeds ranks) where
   abbrev count : ℕ → ℕ
   count bin = length (productsOf bin states speeds)
 
@@ -34,24 +33,24 @@ module _ (driven : List Driven) (states speeds ranks : List ℕ) (lanes : Dynami
   pub room-urban : 0 + count urban ≤ length ranks
   room-urban = omega (arith, room states speeds, lanes .room)
 
-  module _ {u : Figures} {l : List ℕ} (e : u ≡ binDynamics urban (drivenIn driven urban) states speeds) (put : l ≡ placed 0 (ranked urban) ranks) where
+  module _ {u : Figures} {l : List ℕ} (e : u ≡ binDynamics urban states speeds) (put : l ≡ placed 0 (ranked urban) ranks) where
     after-urban : l ≡ ranked urban ++ drop (length (ranked urban)) ranks
     after-urban = filled-next [] ranks {filled = ranks} refl (ranked urban) refl put
 
     urban-is : u .m ≡ count urban
-    urban-is = m-is urban (drivenIn driven urban) states speeds e
+    urban-is = m-is urban states speeds e
 
     pub room-rural : u .m + count rural ≤ length l
     room-rural =
         omega
         (arith, urban-is, room states speeds, lanes .room, ranked-long urban, filled-long (ranked urban) ranks after-urban (omega (arith, ranked-long urban, room states speeds, lanes .room)))
 
-    module _ {r : Figures} {k : List ℕ} (e′ : r ≡ binDynamics rural (drivenIn driven rural) states speeds) (put′ : k ≡ placed (u .m) (ranked rural) l) where
+    module _ {r : Figures} {k : List ℕ} (e′ : r ≡ binDynamics rural states speeds) (put′ : k ≡ placed (u .m) (ranked rural) l) where
       after-rural : k ≡ (ranked urban ++ ranked rural) ++ drop (length (ranked urban ++ ranked rural)) ranks
       after-rural = filled-next (ranked urban) ranks after-urban (ranked rural) (urban-is ∙ sym (ranked-long urban)) put′
 
       both-is : u .m + r .m ≡ length (ranked urban ++ ranked rural)
-      both-is = omega (arith, urban-is, m-is rural (drivenIn driven rural) states speeds e′, length-append (ranked urban) (ranked rural), ranked-long urban, ranked-long rural)
+      both-is = omega (arith, urban-is, m-is rural states speeds e′, length-append (ranked urban) (ranked rural), ranked-long urban, ranked-long rural)
 
       both-are : length (ranked urban ++ ranked rural) ≡ count urban + count rural
       both-are = omega (arith, length-append (ranked urban) (ranked rural), ranked-long urban, ranked-long rural)
@@ -61,8 +60,8 @@ module _ (driven : List Driven) (states speeds ranks : List ℕ) (lanes : Dynami
           omega
           (arith, both-is, both-are, room states speeds, lanes .room, filled-long (ranked urban ++ ranked rural) ranks after-rural (omega (arith, both-are, room states speeds, lanes .room)))
 
-      module _ {m : Figures} {j : List ℕ} (e″ : m ≡ binDynamics motorway (drivenIn driven motorway) states speeds) (put″ : j ≡ placed (u .m + r .m) (ranked motorway) k) where
-        pub all-figures : u ∷ r ∷ m ∷ [] ≡ dynamicsOf driven states speeds
+      module _ {m : Figures} {j : List ℕ} (e″ : m ≡ binDynamics motorway states speeds) (put″ : j ≡ placed (u .m + r .m) (ranked motorway) k) where
+        pub all-figures : u ∷ r ∷ m ∷ [] ≡ dynamicsOf states speeds
         unfolding dynamicsOf
         all-figures = rw (e, e′, e″) refl
 

@@ -13,9 +13,6 @@ total-requires c κs =
     rw (c .tally-bins .ensures)
     (totals-fit _ _ _ _ (λ k. c .before .before .before .before .shared-slice-known2 .given k .fits) (λ k. c .before .before .before .shared-slice-known3 .given k .fits) (λ k. c .before .before .shared-slice-known4 .given k .fits) (c .before .before .before .before .before .before .pre .few))
 
-driven-in-requires : tie.Need-driven-in-requires
-driven-in-requires c κs = search needs
-
 dynamics-requires : tie.Need-dynamics-requires
 dynamics-requires c κs = search needs
 
@@ -28,8 +25,8 @@ same-length c = search needs
 returns : tie.Need-returns
 returns c =
     let figures = c .before .before .before .dynamics .ensures in
-    let tallies = c .before .before .before .before .before .before .before .tally-bins .ensures in
-    (rw (c .join .ensures, figures .0, c .before .before .before .before .before .driven-in .ensures, c .before .before .before .before .before .before .total .ensures, tallies, joins, totals) refl, figures .1)
+    let tallies = c .before .before .before .before .before .before .tally-bins .ensures in
+    (rw (c .join .ensures, figures .0, c .before .before .before .before .before .total .ensures, tallies, joins, totals) refl, figures .1)
 
 pub measure-spec : {M : Type 1} → statement M
 measure-spec =
@@ -37,7 +34,6 @@ measure-spec =
     (tie.spec
     tally-bins-requires
     total-requires
-    driven-in-requires
     dynamics-requires
     join-requires
     same-length

@@ -14,24 +14,21 @@ rank-first-requires c κs =
     let wp = c .before .before .before .write-products .ensures in
     (count-fits (s .args .bin) (s .args .states .now) (s .args .speeds .now) (s .args .lane .now) (s .pre .1) (wp .0) (wp .1), count-few (s .args .bin) (s .args .states .now) (s .args .speeds .now) (s .args .lane .now) (s .pre .1) (wp .0) (wp .1) (s .pre .0 .few))
 
-cast-judge : tie.Need-cast-judge
-cast-judge c =
+cast-m : tie.Need-cast-m
+cast-m c =
     let s = c .before .before .before .before .before .before .before .before .before .before .before in
     let wp = c .before .before .before .before .before .before .write-products .ensures in
     omega (arith, count-few (s .args .bin) (s .args .states .now) (s .args .speeds .now) (s .args .lane .now) (s .pre .1) (wp .0) (wp .1) (s .pre .0 .few))
-
-judge-requires : tie.Need-judge-requires
-judge-requires c κs = tt
 
 same-length : tie.Need-same-length
 same-length c = search needs
 
 returns : tie.Need-returns
 returns c =
-    let s = c .before .before .before .before .before .before .before .before .before .before .before .before in
-    let wp = c .before .before .before .before .before .before .before .write-products .ensures in
-    let rf = c .before .before .before .rank-first .ensures in
-    (figures-are (s .args .bin) (s .args .states .now) (s .args .speeds .now) (s .args .lane .now) (s .pre .1) (wp .0) (wp .1) (s .args .driven) (rf .0) (c .judge .ensures), lane-is (s .args .bin) (s .args .states .now) (s .args .speeds .now) (s .args .lane .now) (s .pre .1) (wp .0) (wp .1) (rf .1))
+    let s = c .before .before .before .before .before .before .before .before .before .before .before in
+    let wp = c .before .before .before .before .before .before .write-products .ensures in
+    let rf = c .before .before .rank-first .ensures in
+    (figures-are (s .args .bin) (s .args .states .now) (s .args .speeds .now) (s .args .lane .now) (s .pre .1) (wp .0) (wp .1) (rf .0), lane-is (s .args .bin) (s .args .states .now) (s .args .speeds .now) (s .args .lane .now) (s .pre .1) (wp .0) (wp .1) (rf .1))
 
 pub bin-dynamics-spec : {M : Type 1} → statement M
 bin-dynamics-spec =
@@ -39,7 +36,6 @@ bin-dynamics-spec =
     (tie.spec
     write-products-requires
     rank-first-requires
-    cast-judge
-    judge-requires
+    cast-m
     same-length
     returns)

@@ -4,30 +4,21 @@ use Rattle.dynamics.proofs.Three.{speed-lanes, room-urban, room-rural, 
 use Rattle.dynamics.proofs.dynamics.Statement.{statement}
 use Rattle.dynamics.proofs.dynamics.Tie as tie
 
-array-copy-out-urban-driven : tie.Need-array-copy-out-urban-driven
-array-copy-out-urban-driven c = search needs
-
-array-copy-out-rural-driven : tie.Need-array-copy-out-rural-driven
-array-copy-out-rural-driven c = search needs
-
-array-copy-out-motorway-driven : tie.Need-array-copy-out-motorway-driven
-array-copy-out-motorway-driven c = search needs
-
 dynamics-from-requires : tie.Need-dynamics-from-requires
 dynamics-from-requires c κs =
-    let s = c .before .before .before .before .before .before .before in
+    let s = c .before .before .before .before in
     let a = s .args in
-    (speed-lanes (a .t3) (a .states .now) (a .speeds .now) (a .ranks .now) (s .pre), room-urban (a .t3) (a .states .now) (a .speeds .now) (a .ranks .now) (s .pre))
+    (speed-lanes (a .states .now) (a .speeds .now) (a .ranks .now) (s .pre), room-urban (a .states .now) (a .speeds .now) (a .ranks .now) (s .pre))
 
 cast-first : tie.Need-cast-first
 cast-first c = search needs
 
 dynamics-from-requires-2 : tie.Need-dynamics-from-requires-2
 dynamics-from-requires-2 c κs =
-    let s = c .before .before .before .before .before .before .before .before .before .before .before .before in
+    let s = c .before .before .before .before .before .before .before .before .before in
     let a = s .args in
     let u = c .before .before .before .before .dynamics-from .ensures in
-    (speed-lanes (a .t3) (a .states .now) (a .speeds .now) (a .ranks .now) (s .pre), room-rural (a .t3) (a .states .now) (a .speeds .now) (a .ranks .now) (s .pre) (u .0) (u .1))
+    (speed-lanes (a .states .now) (a .speeds .now) (a .ranks .now) (s .pre), room-rural (a .states .now) (a .speeds .now) (a .ranks .now) (s .pre) (u .0) (u .1))
 
 cast-both : tie.Need-cast-both
 cast-both c = search needs
@@ -37,31 +28,28 @@ add-both c = search needs
 
 dynamics-from-requires-3 : tie.Need-dynamics-from-requires-3
 dynamics-from-requires-3 c κs =
-    let s = c .before .before .before .before .before .before .before .before .before .before .before .before .before .before .before .before .before in
+    let s = c .before .before .before .before .before .before .before .before .before .before .before .before .before .before in
     let a = s .args in
     let u = c .before .before .before .before .before .before .before .before .before .dynamics-from .ensures in
     let r = c .before .before .before .before .dynamics-from2 .ensures in
-    (speed-lanes (a .t3) (a .states .now) (a .speeds .now) (a .ranks .now) (s .pre), room-motorway (a .t3) (a .states .now) (a .speeds .now) (a .ranks .now) (s .pre) (u .0) (u .1) (r .0) (r .1))
+    (speed-lanes (a .states .now) (a .speeds .now) (a .ranks .now) (s .pre), room-motorway (a .states .now) (a .speeds .now) (a .ranks .now) (s .pre) (u .0) (u .1) (r .0) (r .1))
 
 same-length : tie.Need-same-length
 same-length c = search needs
 
 returns : tie.Need-returns
 returns c =
-    let s = c .before .before .before .before .before .before .before .before .before .before .before .before .before .before .before .before .before .before .before .before in
+    let s = c .before .before .before .before .before .before .before .before .before .before .before .before .before .before .before .before .before in
     let a = s .args in
     let u = c .before .before .before .before .before .before .before .before .before .before .before .before .dynamics-from .ensures in
     let r = c .before .before .before .before .before .before .before .dynamics-from2 .ensures in
     let m = c .before .before .dynamics-from3 .ensures in
-    (all-figures (a .t3) (a .states .now) (a .speeds .now) (a .ranks .now) (s .pre) (u .0) (u .1) (r .0) (r .1) (m .0) (m .1), all-ranked (a .t3) (a .states .now) (a .speeds .now) (a .ranks .now) (s .pre) (u .0) (u .1) (r .0) (r .1) (m .0) (m .1))
+    (all-figures (a .states .now) (a .speeds .now) (a .ranks .now) (s .pre) (u .0) (u .1) (r .0) (r .1) (m .0) (m .1), all-ranked (a .states .now) (a .speeds .now) (a .ranks .now) (s .pre) (u .0) (u .1) (r .0) (r .1) (m .0) (m .1))
 
 pub dynamics-spec : {M : Type 1} → statement M
 dynamics-spec =
     tie.close
     (tie.spec
-    array-copy-out-urban-driven
-    array-copy-out-rural-driven
-    array-copy-out-motorway-driven
     dynamics-from-requires
     cast-first
     dynamics-from-requires-2
