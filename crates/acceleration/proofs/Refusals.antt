@@ -1,12 +1,13 @@
 -- What follows where nothing is refused of a trip's lanes and an index. Assumes nothing.
 use Prim.Native.Nat.{ℕ, _≤_, _<_}
 use mathlib.Core.Path.{_≡_, refl}
-use mathlib.Core.Bool.{Bool, true, false, not, _||_, true≢false}
+use mathlib.Core.Bool.{Bool, true, false, not, _||_}
 use borrow.Author.Tests.{eqb-false, leb-false, ltb-false}
 use lib.Dec.{leb, ltb}
 use Rattle.base.specs.Limits.{tripLimit}
 use Rattle.base.specs.Second.{tooMany}
 use Rattle.base.specs.Words.{pick}
+use Rattle.base.proofs.Tests.{or-left, or-right}
 use Rattle.second.specs.Lanes.{Lanes, secondsIn, lanesAgree, SameLengths, secondInRange, firstBadSecond, noneHasValues}
 use Rattle.second.proofs.Lanes.{agree, each-in-range}
 use Rattle.acceleration.specs.D.{fault, faultOf}
@@ -18,14 +19,6 @@ pub record Accepted (trip : Lanes) (i : ℕ) : Type 0 where
   pub good : (k : ℕ) → k < secondsIn trip → secondInRange trip k ≡ true
   pub some : noneHasValues (trip .states) ≡ false
   pub inside : i < secondsIn trip
-
-or-left : (a b : Bool) → a || b ≡ false → a ≡ false
-or-left false b h = refl
-or-left true b h = h
-
-or-right : (a b : Bool) → a || b ≡ false → b ≡ false
-or-right false b h = h
-or-right true b h = absurd (true≢false h)
 
 pub accepted-facts : (trip : Lanes) (i : ℕ) → faultOf trip i .number ≡ 0 → Accepted trip i
 unfolding faultOf

@@ -11,7 +11,7 @@ use lib.ListN.{getD}
 use lib.Signed.{ltZ}
 use Rattle.base.proofs.Integers.{sub-up, sub-down, sub-ways, pos-minus}
 use Rattle.second.specs.Bins.{binOf}
-use Rattle.second.proofs.Lanes.{and-right}
+use Rattle.base.proofs.Tests.{and-right}
 use Rattle.acceleration.specs.declared.Acceleration.the-variants.{Rising, Falling}
 use Rattle.acceleration.specs.D.{speedBefore, speedAfter, dOf, hasD, numbered}
 use Rattle.acceleration.specs.Products.{counts, productOf, countsIn, productCode}

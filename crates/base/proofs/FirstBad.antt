@@ -1,9 +1,10 @@
 -- Laws of `firstBad`: it is the one index below which each is good and which is itself bad or the end. Assumes nothing.
 use Prim.Native.Nat.{ℕ, zero, suc, _≤_, _<_}
-use mathlib.Core.Path.{_≡_, refl, sym, _∙_}
-use mathlib.Core.Bool.{Bool, true, false, true≢false}
+use mathlib.Core.Path.{_≡_, refl}
+use mathlib.Core.Bool.{Bool, true, false}
 use native.Mathlib.Omega.{arith}
 use Rattle.base.specs.Words.{pick, firstBad}
+use Rattle.base.proofs.Tests.{never-both}
 
 -- the index i is the first bad one: each below it is good, and it is bad or the end
 pub record IsFirstBad (good : ℕ → Bool) (n i : ℕ) : Type 0 where
@@ -25,10 +26,6 @@ first-bad good (suc n) = go (good 0) refl (first-bad (λ i. good (suc i)) n)
           before = elim [ zero ↦ λ h. e | suc k ↦ λ (h : suc k < suc (firstBad (λ i. good (suc i)) n)). rest .before k (omega arith) ];
           there = λ (h : suc (firstBad (λ i. good (suc i)) n) < suc n). rest .there (omega arith);
         }
-
--- no index that is good is bad
-never-both : {t : Bool} → t ≡ true → t ≡ false → ⊥
-never-both p q = let z : true ≡ false = sym p ∙ q in true≢false z
 
 -- of two first bad indices neither is below the other
 not-below : (good : ℕ → Bool) (n i j : ℕ) → IsFirstBad good n i → IsFirstBad good n j → i < j → ⊥

@@ -1,5 +1,6 @@
 -- The laws of the words that every definition uses, of differences of numbers and of altitudes. Callers cite these and not the definitions' text.
 pub mod Choice
+pub mod Tests
 pub mod Seconds
 pub mod Sums
 pub mod FirstBad

@@ -11,7 +11,8 @@ use Rattle.mass.specs.declared.Reading.the-variants.{WetPpm, DryPpm, Wet
 use Rattle.mass.specs.declared.Setting.{Setting}
 use Rattle.mass.specs.Mass.{number, hundredth, zeroTo, aboveZeroTo, readingInRange, settingInRange, inPpm, isDry, wetPpm, lastProduct}
 use Rattle.mass.specs.Bounded.{Bounded, bounded}
-use Rattle.mass.proofs.Ranges.{and-left, and-right, zero-to-bounded, above-zero-to-bounded}
+use Rattle.base.proofs.Tests.{and-left, and-right}
+use Rattle.mass.proofs.Ranges.{zero-to-bounded, above-zero-to-bounded}
 use Rattle.mass.proofs.Products.{times-bounded}
 
 -- ---- the ends of the ranges

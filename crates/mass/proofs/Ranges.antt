@@ -9,18 +9,11 @@ use lib.IntN.{ℤ}
 use lib.Ieee.{Float, nan, inf, fin, ofInt, below, level, le, lt, eq, up, down, isNan}
 use lib.Ieee.Fits.{up-pos, down-pos}
 use borrow.Author.Tests.{ltb-true, eqb-true}
+use Rattle.base.proofs.Tests.{and-left, and-right}
 use Rattle.mass.specs.Mass.{number, zeroTo, aboveZeroTo}
 use Rattle.mass.specs.Bounded.{Bounded, bounded}
 
 -- ---- tests that hold, taken apart
-pub and-left : (p q : Bool) → p && q ≡ true → p ≡ true
-and-left true q h = refl
-and-left false q h = h
-
-pub and-right : (p q : Bool) → p && q ≡ true → q ≡ true
-and-right true q h = h
-and-right false q h = absurd (false≢true h)
-
 or-elim : {X : Type 0} (p q : Bool) → p || q ≡ true → (p ≡ true → X) → (q ≡ true → X) → X
 or-elim true q h f g = f refl
 or-elim false q h f g = g h

@@ -1,12 +1,13 @@
 -- One move and many: each move keeps the state where the rule says, and counts. Assumes nothing.
 use Prim.Native.Nat.{ℕ, zero, suc, _+_, _-_, _^_, _≤_, _<_}
-use mathlib.Core.Path.{_≡_, refl, sym, _∙_, ap}
-use mathlib.Core.Bool.{Bool, true, false, true≢false}
+use mathlib.Core.Path.{_≡_, refl, ap}
+use mathlib.Core.Bool.{Bool, true, false}
 use mathlib.Core.List.{List}
 use native.Mathlib.Omega.{arith}
 use lib.Dec.{leb, ltb}
 use lib.ListN.{length, getD, set}
 use borrow.Author.Tests.{leb-true, leb-false, ltb-true, ltb-false, le-leb, lt-leb, lt-ltb, le-ltb}
+use Rattle.base.proofs.Tests.{never-both}
 use Rattle.base.specs.Words.{sumFirst}
 use Rattle.base.proofs.Sums.{sum-first-more}
 use Rattle.sweep.specs.declared.SweepState.{SweepState}
@@ -16,10 +17,6 @@ use Rattle.sweep.proofs.Prefix.{first-rises, first-within}
 
 one-less : (n : ℕ) → suc n - 1 ≡ n
 one-less n = omega arith
-
--- a test does not come out both ways
-never : {t : Bool} → t ≡ true → t ≡ false → ⊥
-never p q = let z : true ≡ false = sym p ∙ q in true≢false z
 
 module _ (reference : ℕ) (co2 : List ℕ) where
   -- the three things that a move can be
@@ -126,16 +123,16 @@ module _ (reference : ℕ) (co2 : List ℕ) where
     over-rests = go (next s)
       where
         go : Next s → move reference co2 s ≡ s
-        go (closing h o e w) = absurd (never over o)
-        go (taking h k o e w) = absurd (never over o)
+        go (closing h o e w) = absurd (never-both over o)
+        go (taking h k o e w) = absurd (never-both over o)
         go (resting h k o e w) = e
 
     pub over-keeps : (ends : List ℕ) → moveEnds reference co2 s ends ≡ ends
     over-keeps ends = go (next s)
       where
         go : Next s → moveEnds reference co2 s ends ≡ ends
-        go (closing h o e w) = absurd (never over o)
-        go (taking h k o e w) = absurd (never over o)
+        go (closing h o e w) = absurd (never-both over o)
+        go (taking h k o e w) = absurd (never-both over o)
         go (resting h k o e w) = w ends
 
     pub over-after : (budget : ℕ) → afterMoves reference co2 budget s ≡ s

@@ -1,7 +1,7 @@
 -- The refusals of the sweep, case by case in their order, and what an accepted call may take for granted. Assumes nothing.
 use Prim.Native.Nat.{ℕ, _+_, _*_, _≤_, _<_}
 use mathlib.Core.Path.{_≡_, refl}
-use mathlib.Core.Bool.{Bool, true, false, not, _&&_}
+use mathlib.Core.Bool.{Bool, true, false, not, _&&_, and-false}
 use mathlib.Core.List.{List}
 use native.Mathlib.Nat.{le-refl}
 use native.Mathlib.Omega.{arith}
@@ -20,10 +20,6 @@ use Rattle.sweep.specs.declared.SweepState.{SweepState}
 use Rattle.sweep.specs.Sweep.{endsAfter, isReached, firstOutOfRange, sweepRefusal, runAnswer, refusedAnswer, sweepAnswer, sweepEnds}
 use Rattle.sweep.specs.Inside.{Measured, Ready}
 use Rattle.sweep.proofs.Reached.{both, reached-stands}
-
-and-false : (t : Bool) → t && false ≡ false
-and-false true = refl
-and-false false = refl
 
 -- the first bad index is not passed by i + 1 exactly where it is not passed by i and i is good
 pub fine-so-far : (good : ℕ → Bool) (n i : ℕ) → i < n → leb i (firstBad good n) && good i ≡ leb (i + 1) (firstBad good n)

@@ -1,7 +1,7 @@
 -- Laws of the counts: one second more, and how large they grow. Assumes nothing.
 use Prim.Native.Nat.{ℕ, suc, _+_, _≤_}
 use mathlib.Core.Path.{_≡_, refl, sym, _∙_, ap}
-use mathlib.Core.Bool.{Bool, true, false, _&&_}
+use mathlib.Core.Bool.{Bool, true, false, _&&_, and-false}
 use mathlib.Core.List.{List}
 use native.Mathlib.Numerals.{add-one}
 use native.Mathlib.Omega.{arith}
@@ -26,11 +26,7 @@ slow-is-urban present speed = go present (ltb speed 100) refl
     go true true q =
         let low : leb speed 6_000 ≡ true = le-leb speed 6_000 (omega (arith, ltb-true speed 100 q)) in
         rw low refl
-    go true false q = both (eqb (binOf speed) urban)
-      where
-        both : (b : Bool) → b && false ≡ false
-        both true = refl
-        both false = refl
+    go true false q = and-false (eqb (binOf speed) urban)
 
 module _ (states : List ℕ) where
   pub gap-none : gapAfter states 0 ≡ 0

@@ -1,7 +1,7 @@
 -- The outcomes of the refusals of a trip, and what an accepted one may take for granted. Assumes nothing.
 use Prim.Native.Nat.{ℕ, _≤_, _<_}
-use mathlib.Core.Path.{_≡_, refl, sym}
-use mathlib.Core.Bool.{Bool, true, false, not, _&&_, _||_, false≢true}
+use mathlib.Core.Path.{_≡_, refl}
+use mathlib.Core.Bool.{Bool, true, false, not, _&&_, _||_}
 use mathlib.Core.List.{List}
 use native.Mathlib.Omega.{arith}
 use borrow.Author.Tests.{ltb-false, leb-true, eqb-false, eq-eqb, ne-eqb}
@@ -15,7 +15,8 @@ use Rattle.base.specs.Refusal.{accepted, lanesDiffer, tooManyValues, outOfRange
 use Rattle.base.specs.Second.{measured, tooMany, stateKnown, speedInRange, altitudeInRange, co2InRange, noxInRange}
 use Rattle.second.specs.declared.Fault.{Fault}
 use Rattle.second.specs.Lanes.{Lanes, secondsIn, lanesAgree, SameLengths, hasValues, valuesInRange, secondInRange, firstBadSecond, noneHasValues}
-use Rattle.second.proofs.Lanes.{and-left, and-right, agree, each-in-range}
+use Rattle.base.proofs.Tests.{and-left, and-right, or-left, or-right}
+use Rattle.second.proofs.Lanes.{agree, each-in-range}
 use Rattle.kept.specs.Kept.{secondKept}
 use Rattle.found.specs.Inside.{Findable}
 use Rattle.bins.specs.Bins.{BinLanes}
@@ -23,15 +24,6 @@ use Rattle.climb.specs.Climb.{ClimbLanes}
 use Rattle.trip.specs.declared.Rooms.{Rooms}
 use Rattle.trip.specs.Refusals.{tooShort, fault, tripFault, isAccepted}
 use Rattle.trip.proofs.Chain.{gives-plan, gives-differ, gives-many, gives-short, gives-bad, gives-none, gives-accepted}
-
--- one of two tests failed, or neither
-or-left : (a b : Bool) → a || b ≡ false → a ≡ false
-or-left false b h = refl
-or-left true b h = h
-
-or-right : (a b : Bool) → a || b ≡ false → b ≡ false
-or-right false b h = h
-or-right true b h = absurd (false≢true (sym h))
 
 -- a place per second in each lent lane
 pub record Places (rooms : Rooms) (n : ℕ) : Type 0 where

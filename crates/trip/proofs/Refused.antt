@@ -6,7 +6,7 @@ use mathlib.Core.Bool.{Bool, true, false, not, false≢true}
 use mathlib.Core.Logic.{_⊎_, _↔_}
 use native.Mathlib.Nat.{le-refl}
 use native.Mathlib.Omega.{arith}
-use borrow.Author.Tests.{ltb-true, ltb-false, lt-ltb, le-ltb, eq-eqb, eqb-true, not-true}
+use borrow.Author.Tests.{ltb-true, ltb-false, lt-ltb, le-ltb, eqb-true, not-true}
 use lib.Dec.{ltb}
 use lib.ListN.{getD}
 use Rattle.base.specs.declared.Plan.{Plan}
@@ -18,7 +18,7 @@ use Rattle.base.specs.Words.{firstBad}
 use Rattle.base.proofs.FirstBad.{first-bad}
 use Rattle.second.specs.declared.Fault.{Fault}
 use Rattle.second.specs.Lanes.{Lanes, secondsIn, lanesAgree, SameLengths, hasValues, secondInRange, firstBadSecond, noneHasValues}
-use Rattle.second.proofs.Lanes.{agree, each-in-range, none-has}
+use Rattle.second.proofs.Lanes.{agree, each-in-range, none-has, agrees}
 use Rattle.second.proofs.Search.{stops-at, comes-to}
 use Rattle.reasons.proofs.Says.{Says, says-or, says-below}
 use Rattle.trip.specs.declared.Rooms.{Rooms}
@@ -56,11 +56,6 @@ pub data Given (plan : Plan) (trip : Lanes) (rooms : Rooms) : Fault → Type 0 w
   none : planInRange plan ≡ true → SameLengths trip → secondsIn trip ≤ tripLimit → Places rooms (secondsIn trip) → AllInRange trip → (NoSecond trip → ⊥) → Given plan trip rooms (fault 0 0)
 
 -- ---- each test says its condition
-same-agrees : (trip : Lanes) → SameLengths trip → lanesAgree trip ≡ true
-unfolding lanesAgree
-same-agrees trip same =
-    rw (eq-eqb _ _ (same .speeds), eq-eqb _ _ (same .altitudes), eq-eqb _ _ (same .co2), eq-eqb _ _ (same .nox)) refl
-
 says-short : (rooms : Rooms) (n : ℕ) → Says (tooShort rooms n) (TooShort rooms n)
 unfolding tooShort
 says-short rooms n =
@@ -112,7 +107,7 @@ module _ (plan : Plan) (trip : Lanes) (rooms : Rooms) where
       few r = ltb-false tripLimit (secondsIn trip) r
 
       differ : lanesAgree trip ≡ false → SameLengths trip → ⊥
-      differ q same = false≢true (sym q ∙ same-agrees trip same)
+      differ q same = false≢true (sym q ∙ agrees trip same)
 
       go : (x : Fault) → Outcome plan trip rooms x → Given plan trip rooms x
       go _ (Outcome.bad-plan p) = plan-out-of-range p
@@ -131,14 +126,14 @@ module _ (plan : Plan) (trip : Lanes) (rooms : Rooms) where
       apart : (t : Bool) → lanesAgree trip ≡ t → lanesAgree trip ≡ false
       apart true e = absurd (q (agree trip e))
       apart false e = e
-  only-given _ (too-many p q r) = gives-many plan trip rooms p (same-agrees trip q) (lt-ltb tripLimit (secondsIn trip) r)
-  only-given _ (lane-too-short p q r s) = gives-short plan trip rooms p (same-agrees trip q) (le-ltb tripLimit (secondsIn trip) r) (says-short rooms (secondsIn trip) .back s)
+  only-given _ (too-many p q r) = gives-many plan trip rooms p (agrees trip q) (lt-ltb tripLimit (secondsIn trip) r)
+  only-given _ (lane-too-short p q r s) = gives-short plan trip rooms p (agrees trip q) (le-ltb tripLimit (secondsIn trip) r) (says-short rooms (secondsIn trip) .back s)
   only-given _ (out-of-range p q r s i t) =
       let here : firstBadSecond trip ≡ i = is-first-bad trip i t in
       let below : ltb (firstBadSecond trip) (secondsIn trip) ≡ true = rw here (lt-ltb i (secondsIn trip) (t .within)) in
-      gives-bad plan trip rooms p (same-agrees trip q) (le-ltb tripLimit (secondsIn trip) r) (room-enough rooms (secondsIn trip) s) below ∙ ap (fault outOfRange) here
-  only-given _ (no-second p q r s t u) = gives-none plan trip rooms p (same-agrees trip q) (le-ltb tripLimit (secondsIn trip) r) (room-enough rooms (secondsIn trip) s) (all-good trip t) (none-says trip u)
-  only-given _ (none p q r s t u) = gives-accepted plan trip rooms p (same-agrees trip q) (le-ltb tripLimit (secondsIn trip) r) (room-enough rooms (secondsIn trip) s) (all-good trip t) (some-says trip (noneHasValues (trip .states)) refl u)
+      gives-bad plan trip rooms p (agrees trip q) (le-ltb tripLimit (secondsIn trip) r) (room-enough rooms (secondsIn trip) s) below ∙ ap (fault outOfRange) here
+  only-given _ (no-second p q r s t u) = gives-none plan trip rooms p (agrees trip q) (le-ltb tripLimit (secondsIn trip) r) (room-enough rooms (secondsIn trip) s) (all-good trip t) (none-says trip u)
+  only-given _ (none p q r s t u) = gives-accepted plan trip rooms p (agrees trip q) (le-ltb tripLimit (secondsIn trip) r) (room-enough rooms (secondsIn trip) s) (all-good trip t) (some-says trip (noneHasValues (trip .states)) refl u)
 
   -- the call gives a number and a place exactly when the conditions of that row hold
   pub refused-exactly : (x : Fault) → (tripFault plan trip rooms ≡ x) ↔ Given plan trip rooms x

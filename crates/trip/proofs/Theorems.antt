@@ -9,7 +9,7 @@ use Rattle.base.specs.declared.Plan.{Plan}
 use Rattle.base.specs.Second.{stateKnown}
 use Rattle.second.specs.Bins.{urban, rural, motorway}
 use Rattle.second.specs.Lanes.{Lanes, secondsIn, hasValues, valuesInRange, secondInRange}
-use Rattle.second.proofs.Lanes.{and-left}
+use Rattle.base.proofs.Tests.{and-left}
 use Rattle.tally.specs.declared.Tally.{Tally}
 use Rattle.tally.specs.Counts.{countsAfter}
 use Rattle.tally.proofs.Tallies.{bins-add-up, seconds-add-up}

@@ -1,7 +1,7 @@
 -- The band, decided on naturals: a curve below 0 has no window inside, and at or above 0 both comparisons are of naturals. Assumes nothing.
 use Prim.Native.Nat.{ℕ, zero, suc, _+_, _-_, _*_, _≤_, _<_}
 use mathlib.Core.Path.{_≡_, refl}
-use mathlib.Core.Bool.{Bool, true, false, _&&_}
+use mathlib.Core.Bool.{false, _&&_, and-false}
 use native.Mathlib.Nat.{mul-suc}
 use native.Mathlib.Omega.{arith}
 use lib.Dec.{leb}
@@ -9,10 +9,6 @@ use lib.IntN.{pos, negsuc, negℤ, subℕ, _*ℤ_}
 use lib.Signed.{leZ}
 use Rattle.windows.specs.Figure.{inBand}
 use Rattle.windows.proofs.Signs.{sub-above, sub-below}
-
-and-false : (t : Bool) → t && false ≡ false
-and-false true = refl
-and-false false = refl
 
 -- nothing at or above 0 is at most a number below 0
 not-under : (a n : ℕ) → 0 < n → leZ (pos a) (negℤ (pos n)) ≡ false

@@ -8,7 +8,8 @@ use Rattle.base.specs.Limits.{curveMost}
 use Rattle.base.proofs.Products.{product-at-most}
 use Rattle.windows.specs.Figure.{floorBy, lineAt}
 use Rattle.windows.specs.Inside.{raisedBy, LineGiven}
-use Rattle.windows.proofs.Signs.{sub-above, sub-below, sub-same, Order, order, times}
+use Rattle.base.proofs.Integers.{sub-same}
+use Rattle.windows.proofs.Signs.{sub-above, sub-below, Order, order, times}
 
 -- `floorBy` is the floor towards minus infinity: z is w times it and a rest from 0 to below w, whatever the sign of z
 pub floor : (z : ℤ) (w : ℕ) → 0 < w → (r : ℕ) × (r < w) × (z ≡ floorBy z w *ℤ pos w +ℤ pos r)

@@ -1,11 +1,12 @@
 -- Differences of two naturals, over which the curve is computed: `subℕ a b` is a - b. Assumes nothing.
 use Prim.Native.Nat.{ℕ, zero, suc, _+_, _-_, _*_}
-use mathlib.Core.Path.{_≡_, refl, sym, _∙_, ap}
+use mathlib.Core.Path.{_≡_, refl, sym, ap}
 use mathlib.Core.Bool.{Bool, true, false}
 use native.Mathlib.Nat.{mul-add, add-mul}
 use native.Mathlib.Omega.{arith}
 use lib.Dec.{ltb}
 use lib.IntN.{pos, negsuc, negℤ, subℕ, _-ℤ_, _*ℤ_}
+use Rattle.base.proofs.Integers.{sub-same}
 use borrow.Author.Tests.{lt-ltb, le-ltb, ltb-true, ltb-false}
 
 -- a difference is at or above 0, or below
@@ -25,14 +26,6 @@ order a b = go (ltb a b) refl
     go : (t : Bool) → ltb a b ≡ t → Order a b
     go true p = below (b - suc a) (omega (arith, ltb-true a b p))
     go false p = above (a - b) (omega (arith, ltb-false a b p))
-
--- equal differences
-pub sub-same : (a b c d : ℕ) → a + d ≡ c + b → subℕ a b ≡ subℕ c d
-sub-same a b c d e = go (order a b)
-  where
-    go : Order a b → subℕ a b ≡ subℕ c d
-    go (above k p) = sub-above a b k p ∙ sym (sub-above c d k (omega arith))
-    go (below k p) = sub-below a b k p ∙ sym (sub-below c d k (omega arith))
 
 -- a difference as the integers write it
 pub minus : (a b : ℕ) → pos a -ℤ pos b ≡ subℕ a b
