@@ -4,13 +4,14 @@ use mathlib.Core.Path.{_≡_, refl}
 use mathlib.Core.Bool.{Bool, true, false, not, _||_}
 use borrow.Author.Tests.{eqb-false, leb-false, ltb-false}
 use lib.Dec.{leb, ltb}
+use Rattle.base.specs.Refusal.{fault}
 use Rattle.base.specs.Limits.{tripLimit}
 use Rattle.base.specs.Second.{tooMany}
 use Rattle.base.specs.Words.{pick}
 use Rattle.base.proofs.Tests.{or-left, or-right}
 use Rattle.second.specs.Lanes.{Lanes, secondsIn, lanesAgree, SameLengths, secondInRange, firstBadSecond, noneHasValues}
 use Rattle.second.proofs.Lanes.{agree, each-in-range}
-use Rattle.acceleration.specs.D.{fault, faultOf}
+use Rattle.acceleration.specs.D.{faultOf}
 
 -- what an accepted call knows
 pub record Accepted (trip : Lanes) (i : ℕ) : Type 0 where

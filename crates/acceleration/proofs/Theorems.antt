@@ -7,15 +7,16 @@ use borrow.Author.Tests.{ltb-true, ltb-false, leb-true, leb-false, lt-ltb, le-lt
 use lib.Dec.{leb, ltb}
 use lib.IntN.{ℤ, pos, negsuc}
 use lib.ListN.{getD}
+use Rattle.base.specs.Refusal.{fault}
 use Rattle.base.specs.Limits.{tripLimit}
 use Rattle.base.specs.Second.{tooMany}
 use Rattle.base.specs.Words.{pick}
-use Rattle.second.specs.declared.Fault.{Fault}
+use Rattle.base.specs.declared.Fault.{Fault}
 use Rattle.second.specs.Lanes.{Lanes, secondsIn, lanesAgree, SameLengths, hasValues, firstBadSecond, noneHasValues}
 use Rattle.second.proofs.Lanes.{agree, agrees, not-agree, none-each, each-none}
 use Rattle.acceleration.specs.declared.Acceleration.{Acceleration}
 use Rattle.acceleration.specs.declared.Acceleration.the-variants.{Rising, Falling, None, Refused}
-use Rattle.acceleration.specs.D.{dOf, hasD, numbered, fault, faultOf, accelerationOf, refusalOf, valueOf}
+use Rattle.acceleration.specs.D.{dOf, hasD, numbered, faultOf, accelerationOf, refusalOf, valueOf}
 
 module _ (trip : Lanes) (i : ℕ) where
   abbrev n : ℕ

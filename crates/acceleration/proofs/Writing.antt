@@ -6,7 +6,7 @@ use mathlib.Core.List.{List, [], _∷_, _++_}
 use native.Mathlib.Numerals.{add-one}
 use native.Mathlib.Omega.{arith}
 use lib.ListN.{length, drop, set, length-append, length-set}
-use Rattle.second.proofs.Store.{store-next}
+use Rattle.base.proofs.Store.{store-next}
 use Rattle.base.specs.Words.{pick, sum}
 use Rattle.base.proofs.Choice.{both-ways}
 use Rattle.base.proofs.Seconds.{after-none, after-more}

@@ -5,10 +5,10 @@ use mathlib.Core.List.{List}
 use lib.Dec.{leb, ltb, eqb}
 use lib.IntN.{ℤ, pos, negsuc, negℤ, _-ℤ_}
 use lib.ListN.{getD}
-use Rattle.base.specs.Refusal.{accepted, lanesDiffer, tooManyValues, outOfRange, noSecond}
+use Rattle.base.specs.Refusal.{accepted, lanesDiffer, tooManyValues, outOfRange, noSecond, fault}
 use Rattle.base.specs.Second.{measured, tooMany}
 use Rattle.base.specs.Words.{pick}
-use Rattle.second.specs.declared.Fault.{Fault}
+use Rattle.base.specs.declared.Fault.{Fault}
 use Rattle.second.specs.Lanes.{Lanes, secondsIn, lanesAgree, hasValues, firstBadSecond, noneHasValues}
 use Rattle.acceleration.specs.declared.Acceleration.{Acceleration}
 use Rattle.acceleration.specs.declared.Acceleration.the-variants.{Rising, Falling, None, Refused}
@@ -38,9 +38,6 @@ unfoldable pub hasD : List ℕ → ℕ → Bool
 hasD states i = hasValues (getD states i 0) && hasBefore states i && hasAfter states i
 
 -- refusals "1, 2, 3, 4": the number and the place
-abbrev pub fault : ℕ → ℕ → Fault
-fault number place = record { number = number; place = place }
-
 unfoldable pub faultOf : Lanes → ℕ → Fault
 faultOf trip i =
     pick (not (lanesAgree trip)) (fault lanesDiffer 0)

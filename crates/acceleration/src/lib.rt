@@ -7,7 +7,7 @@ ghost use lib.ListN.{length, drop};
 ghost use Rattle.second.specs.Lanes.{lanesOf};
 ghost use Rattle.acceleration.specs.D.{speedBefore, speedAfter, hasBefore, hasAfter, hasD, numbered, dOf, faultOf, accelerationOf};
 ghost use Rattle.acceleration.specs.Products.{SpeedLanes, productCode, productsOf, figuresOf};
-use second::Fault;
+use base::Fault;
 
 // The answer for one second.
 pub enum Acceleration {

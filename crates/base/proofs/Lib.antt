@@ -1,9 +1,11 @@
--- The laws of the words that every definition uses, of differences of numbers and of altitudes. Callers cite these and not the definitions' text.
+-- The laws of the words that every definition uses, of searches and stores, of differences of numbers and of altitudes. Callers cite these and not the definitions' text.
 pub mod Choice
 pub mod Tests
 pub mod Seconds
 pub mod Sums
 pub mod FirstBad
+pub mod Search
+pub mod Store
 pub mod Products
 pub mod Integers
 pub mod Altitude

@@ -1,5 +1,6 @@
 -- The numbers of refusal: "given exactly when".
 use Prim.Native.Nat.{ℕ}
+use Rattle.base.specs.declared.Fault.{Fault}
 
 -- accepted
 abbrev pub accepted : ℕ
@@ -56,3 +57,7 @@ tooFewValues = 12
 -- sweep state that these kept seconds and this reference never reach
 abbrev pub stateNotReached : ℕ
 stateNotReached = 13
+
+-- "A refusal returns its number and a place"
+abbrev pub fault : ℕ → ℕ → Fault
+fault number place = record { number = number; place = place }

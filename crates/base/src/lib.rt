@@ -14,6 +14,12 @@ ghost use lib.ListN.{length, getD};
 ghost use Rattle.base.specs.Second.{tooMany, stateKnown, speedInRange, altitudeCode, co2InRange, noxInRange};
 ghost use Rattle.base.specs.Plan.{referenceInRange, curveInRange, toleranceInRange, planInRange};
 
+// A refusal: its number, and the index of the first bad second or value where the number is 3.
+pub struct Fault {
+    pub number: u8,
+    pub place: usize,
+}
+
 // What a trip is judged by, fixed before the drive.
 #[repr(C)]
 pub struct Plan {

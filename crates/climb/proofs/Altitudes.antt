@@ -14,7 +14,7 @@ use Rattle.base.specs.Words.{pick}
 use Rattle.base.proofs.Altitude.{code-at-most}
 use Rattle.base.proofs.Choice.{both-ways}
 use Rattle.base.proofs.Seconds.{after-none, after-more, after-keeps}
-use Rattle.second.proofs.Search.{stops-at, comes-to}
+use Rattle.base.proofs.Search.{stops-at, comes-to}
 use Rattle.second.specs.Lanes.{hasValues}
 use Rattle.climb.specs.Climb.{codeOf, codeMost, recordedAt, recordedBefore, jumps, corrected, correctedAfter, stepUp, climbAfter, highAfter, climbOf, climbMost}
 use Rattle.climb.specs.Ends.{firstRecorded, lastAfter}

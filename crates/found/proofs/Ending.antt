@@ -12,7 +12,7 @@ use Rattle.base.specs.Limits.{tripLimit, co2Most, referenceMost}
 use Rattle.base.specs.Refusal.{accepted}
 use Rattle.base.specs.Second.{tooMany, co2InRange}
 use Rattle.base.specs.Words.{firstBad}
-use Rattle.second.proofs.Search.{comes-to}
+use Rattle.base.proofs.Search.{comes-to}
 use Rattle.sweep.specs.declared.SweepState.{SweepState}
 use Rattle.sweep.specs.declared.Swept.{Swept}
 use Rattle.sweep.specs.Sweep.{beginning, isOver, afterMoves, endsAfter, isReached, firstOutOfRange, sweepRefusal, runAnswer, sweepAnswer, sweepEnds}

@@ -7,7 +7,7 @@ use native.Mathlib.Omega.{arith}
 use lib.ListN.{length, getD, set, length-append, length-set}
 use Rattle.base.specs.Words.{pick, afterFirst}
 use Rattle.base.proofs.Seconds.{after-more}
-use Rattle.second.proofs.Store.{store-next}
+use Rattle.base.proofs.Store.{store-next}
 use Rattle.kept.specs.Kept.{secondKept, keptAfter, withFront}
 
 -- what holds of each value of a list and of one more holds of each of both

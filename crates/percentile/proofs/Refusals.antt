@@ -6,12 +6,13 @@ use mathlib.Core.List.{List, _++_}
 use borrow.Author.Tests.{eqb-false, ltb-false, eq-eqb, ne-eqb}
 use lib.Dec.{ltb}
 use lib.ListN.{length, drop}
+use Rattle.base.specs.Refusal.{fault}
 use Rattle.base.specs.Limits.{tripLimit}
 use Rattle.base.specs.Second.{tooMany}
 use Rattle.base.specs.Words.{pick}
 use Rattle.rank.specs.Sort.{sort}
 use Rattle.percentile.specs.declared.Answer.the-variants.{Q, Refused}
-use Rattle.percentile.specs.Percentile.{fewest, firstBadProduct, fault, faultOf, qOf, answerOf, laneOf}
+use Rattle.percentile.specs.Percentile.{fewest, firstBadProduct, faultOf, qOf, answerOf, laneOf}
 
 pub record Accepted (values : List ℕ) (places : ℕ) : Type 0 where
   pub few : length values ≤ tripLimit

@@ -6,13 +6,14 @@ use mathlib.Core.List.{List}
 use borrow.Author.Tests.{ltb-true, ltb-false, lt-ltb, le-ltb}
 use lib.Dec.{ltb}
 use lib.ListN.{length}
+use Rattle.base.specs.Refusal.{fault}
 use Rattle.base.specs.Limits.{tripLimit}
 use Rattle.base.specs.Second.{tooMany}
 use Rattle.base.specs.Words.{pick}
-use Rattle.second.specs.declared.Fault.{Fault}
+use Rattle.base.specs.declared.Fault.{Fault}
 use Rattle.percentile.specs.declared.Answer.{Answer}
 use Rattle.percentile.specs.declared.Answer.the-variants.{Q, Refused}
-use Rattle.percentile.specs.Percentile.{fewest, firstBadProduct, fault, faultOf, laneOf, refusalOf, valueOf}
+use Rattle.percentile.specs.Percentile.{fewest, firstBadProduct, faultOf, laneOf, refusalOf, valueOf}
 use Rattle.percentile.proofs.Refusals.{lane-refused}
 
 module _ (values : List ℕ) (places : ℕ) where

@@ -5,12 +5,12 @@ use mathlib.Core.List.{List, _++_}
 use lib.Dec.{leb, ltb, eqb}
 use lib.ListN.{length, getD, drop}
 use Rattle.base.specs.Limits.{tripLimit}
-use Rattle.base.specs.Refusal.{accepted, tooManyValues, outOfRange, laneTooShort, tooFewValues}
+use Rattle.base.specs.Refusal.{accepted, tooManyValues, outOfRange, laneTooShort, tooFewValues, fault}
 use Rattle.base.specs.Second.{tooMany}
 use Rattle.base.specs.Words.{pick, firstBad}
 use Rattle.rank.specs.Sort.{sort}
 use Rattle.rank.specs.Order.{Ascending}
-use Rattle.second.specs.declared.Fault.{Fault}
+use Rattle.base.specs.declared.Fault.{Fault}
 use Rattle.percentile.specs.declared.Answer.{Answer}
 use Rattle.percentile.specs.declared.Answer.the-variants.{Q, Refused}
 
@@ -48,9 +48,6 @@ unfoldable pub firstBadProduct : List ℕ → ℕ
 firstBadProduct values = firstBad (λ i. productInRange (getD values i 0)) (length values)
 
 -- "Percentile: 2, 12, 6, 3": the number and the place, of values and of a lane with so many places
-abbrev pub fault : ℕ → ℕ → Fault
-fault number place = record { number = number; place = place }
-
 unfoldable pub faultOf : List ℕ → ℕ → Fault
 faultOf values places =
     pick (tooMany (length values)) (fault tooManyValues 0)

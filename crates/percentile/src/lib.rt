@@ -8,7 +8,7 @@ ghost use lib.ListN.{length, take, drop};
 ghost use Rattle.base.specs.Limits.{tripLimit};
 ghost use Rattle.rank.specs.Sort.{sort};
 ghost use Rattle.percentile.specs.Percentile.{Ranked, qOf, qOrZero, productInRange, firstBadProduct, faultOf, answerOf, laneOf};
-use second::Fault;
+use base::Fault;
 
 // The answer of the percentile call.
 pub enum Answer {

@@ -4,11 +4,11 @@ use mathlib.Core.Bool.{true, false}
 use lib.Dec.{ltb}
 use Rattle.base.specs.declared.Plan.{Plan}
 use Rattle.base.specs.Plan.{planInRange}
-use Rattle.base.specs.Refusal.{accepted, lanesDiffer, tooManyValues, outOfRange, noSecond, planOutOfRange, laneTooShort}
+use Rattle.base.specs.Refusal.{accepted, lanesDiffer, tooManyValues, outOfRange, noSecond, planOutOfRange, laneTooShort, fault}
 use Rattle.base.specs.Second.{tooMany}
 use Rattle.second.specs.Lanes.{Lanes, secondsIn, lanesAgree, firstBadSecond, noneHasValues}
 use Rattle.trip.specs.declared.Rooms.{Rooms}
-use Rattle.trip.specs.Refusals.{tooShort, fault, tripFault}
+use Rattle.trip.specs.Refusals.{tooShort, tripFault}
 
 module _ (plan : Plan) (trip : Lanes) (rooms : Rooms) where
   pub gives-plan : planInRange plan ≡ false → tripFault plan trip rooms ≡ fault planOutOfRange 0

@@ -11,9 +11,9 @@ use lib.IntN.{pos}
 use Rattle.base.specs.declared.Plan.{Plan}
 use Rattle.base.specs.Limits.{tripLimit, speedMost, co2Most}
 use Rattle.base.specs.Plan.{planInRange}
-use Rattle.base.specs.Refusal.{accepted, lanesDiffer, tooManyValues, outOfRange, noSecond, planOutOfRange, laneTooShort}
+use Rattle.base.specs.Refusal.{accepted, lanesDiffer, tooManyValues, outOfRange, noSecond, planOutOfRange, laneTooShort, fault}
 use Rattle.base.specs.Second.{measured, tooMany, stateKnown, speedInRange, altitudeInRange, co2InRange, noxInRange}
-use Rattle.second.specs.declared.Fault.{Fault}
+use Rattle.base.specs.declared.Fault.{Fault}
 use Rattle.second.specs.Lanes.{Lanes, secondsIn, lanesAgree, SameLengths, hasValues, valuesInRange, secondInRange, firstBadSecond, noneHasValues}
 use Rattle.base.proofs.Tests.{and-left, and-right, or-left, or-right}
 use Rattle.second.proofs.Lanes.{agree, each-in-range}
@@ -22,7 +22,7 @@ use Rattle.found.specs.Inside.{Findable}
 use Rattle.bins.specs.Bins.{BinLanes}
 use Rattle.climb.specs.Climb.{ClimbLanes}
 use Rattle.trip.specs.declared.Rooms.{Rooms}
-use Rattle.trip.specs.Refusals.{tooShort, fault, tripFault, isAccepted}
+use Rattle.trip.specs.Refusals.{tooShort, tripFault, isAccepted}
 use Rattle.trip.proofs.Chain.{gives-plan, gives-differ, gives-many, gives-short, gives-bad, gives-none, gives-accepted}
 
 -- a place per second in each lent lane

@@ -12,17 +12,17 @@ use lib.ListN.{getD}
 use Rattle.base.specs.declared.Plan.{Plan}
 use Rattle.base.specs.Limits.{tripLimit}
 use Rattle.base.specs.Plan.{planInRange}
-use Rattle.base.specs.Refusal.{outOfRange}
+use Rattle.base.specs.Refusal.{outOfRange, fault}
 use Rattle.base.specs.Second.{tooMany}
 use Rattle.base.specs.Words.{firstBad}
 use Rattle.base.proofs.FirstBad.{first-bad}
-use Rattle.second.specs.declared.Fault.{Fault}
+use Rattle.base.specs.declared.Fault.{Fault}
 use Rattle.second.specs.Lanes.{Lanes, secondsIn, lanesAgree, SameLengths, hasValues, secondInRange, firstBadSecond, noneHasValues}
 use Rattle.second.proofs.Lanes.{agree, each-in-range, none-has, agrees}
-use Rattle.second.proofs.Search.{stops-at, comes-to}
+use Rattle.base.proofs.Search.{stops-at, comes-to}
 use Rattle.reasons.proofs.Says.{Says, says-or, says-below}
 use Rattle.trip.specs.declared.Rooms.{Rooms}
-use Rattle.trip.specs.Refusals.{tooShort, fault, tripFault, isAccepted}
+use Rattle.trip.specs.Refusals.{tooShort, tripFault, isAccepted}
 use Rattle.trip.specs.Trip.{answerOf, refused, concluded, answerFrom}
 use Rattle.trip.proofs.Chain.{gives-plan, gives-differ, gives-many, gives-short, gives-bad, gives-none, gives-accepted}
 use Rattle.trip.proofs.Passed.{Places, places, Outcome, outcome}

@@ -6,10 +6,10 @@ use lib.Dec.{ltb, eqb}
 use lib.ListN.{length}
 use Rattle.base.specs.declared.Plan.{Plan}
 use Rattle.base.specs.Plan.{planInRange}
-use Rattle.base.specs.Refusal.{accepted, lanesDiffer, tooManyValues, outOfRange, noSecond, planOutOfRange, laneTooShort}
+use Rattle.base.specs.Refusal.{accepted, lanesDiffer, tooManyValues, outOfRange, noSecond, planOutOfRange, laneTooShort, fault}
 use Rattle.base.specs.Second.{tooMany}
 use Rattle.base.specs.Words.{pick}
-use Rattle.second.specs.declared.Fault.{Fault}
+use Rattle.base.specs.declared.Fault.{Fault}
 use Rattle.second.specs.Lanes.{Lanes, secondsIn, lanesAgree, firstBadSecond, noneHasValues}
 use Rattle.trip.specs.declared.Rooms.{Rooms}
 
@@ -22,9 +22,6 @@ roomsOf speeds co2 ends ranks =
 unfoldable pub tooShort : Rooms → ℕ → Bool
 tooShort rooms n =
     ltb (rooms .speeds) n || ltb (rooms .co2) n || ltb (rooms .ends) n || ltb (rooms .ranks) n
-
-abbrev pub fault : ℕ → ℕ → Fault
-fault number place = record { number = number; place = place }
 
 -- the number of refusal, 0 where there is none, and its place: "3: index .. of the first bad second ..; otherwise 0"
 unfoldable pub tripFault : Plan → Lanes → Rooms → Fault

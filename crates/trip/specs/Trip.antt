@@ -7,7 +7,7 @@ use lib.ListN.{length, getD}
 use Rattle.base.specs.declared.Plan.{Plan}
 use Rattle.base.specs.Refusal.{accepted}
 use Rattle.base.specs.Words.{pick}
-use Rattle.second.specs.declared.Fault.{Fault}
+use Rattle.base.specs.declared.Fault.{Fault}
 use Rattle.second.specs.Bins.{urban, rural, motorway}
 use Rattle.second.specs.Lanes.{Lanes}
 use Rattle.windows.specs.Counts.{noCount}

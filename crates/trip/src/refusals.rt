@@ -3,8 +3,8 @@
 use crate::Bin;
 use crate::Evaluated;
 use crate::Rooms;
+use base::Fault;
 use base::Plan;
-use second::Fault;
 use tally::Tally;
 use windows::ClassCount;
 ghost use mathlib.Core.Path.{_≡_};

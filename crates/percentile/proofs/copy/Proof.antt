@@ -5,7 +5,7 @@ use mathlib.Core.Path.{_≡_, refl, _∙_}
 use mathlib.Core.List.{_++_}
 use lib.ListN.{length, take, drop, length-set}
 use native.Mathlib.Omega.{arith}
-use Rattle.second.proofs.Store.{copy-next, copied}
+use Rattle.base.proofs.Store.{copy-next, copied}
 use Rattle.percentile.proofs.copy.Statement.{statement}
 use Rattle.percentile.proofs.copy.Tie as tie
 

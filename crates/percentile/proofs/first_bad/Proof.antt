@@ -8,7 +8,7 @@ use lib.ListN.{length, getD}
 use borrow.Author.Count.{below-none, below-more}
 use borrow.Author.Tests.{le-leb, lt-leb}
 use native.Mathlib.Omega.{arith}
-use Rattle.second.proofs.Search.{stops-at, comes-to}
+use Rattle.base.proofs.Search.{stops-at, comes-to}
 use Rattle.percentile.specs.Percentile.{productInRange, firstBadProduct}
 use Rattle.percentile.proofs.first_bad.Statement.{statement}
 use Rattle.percentile.proofs.first_bad.Tie as tie

@@ -4,11 +4,11 @@ use mathlib.Core.Bool.{true, false}
 use borrow.Author.Tests.{not-true, not-false, lt-ltb, le-ltb}
 use lib.Dec.{ltb}
 use Rattle.base.specs.Plan.{planInRange}
-use Rattle.base.specs.Refusal.{outOfRange}
+use Rattle.base.specs.Refusal.{outOfRange, fault}
 use Rattle.base.specs.Second.{tooMany}
 use Rattle.second.specs.Lanes.{Lanes, lanesOf, secondsIn, lanesAgree, firstBadSecond}
 use Rattle.second.proofs.Lanes.{agree}
-use Rattle.trip.specs.Refusals.{fault, tooShort}
+use Rattle.trip.specs.Refusals.{tooShort}
 use Rattle.trip.proofs.Chain.{gives-plan, gives-differ, gives-many, gives-short, gives-bad, gives-none, gives-accepted}
 use borrow.Author.Needs.{needs}
 use Rattle.trip.proofs.refusals.fault_of.Statement.{statement}
