@@ -4,10 +4,11 @@
 #   make judge TRIP=FILE      judge a trip
 #   make lib                  target/pierbracken/: libpierbracken.a and pierbracken.h
 #   make bench                compare with plain Rust, and print ratios
+#   make soak                 the long comparison with the independent program
 
 TRIP = examples/printed.trip
 
-.PHONY: test judge lib bench
+.PHONY: test judge lib bench soak
 
 test:
 	@tools/test
@@ -20,3 +21,6 @@ lib:
 
 bench:
 	@tools/bench
+
+soak:
+	@tools/soak

@@ -33,7 +33,7 @@ enum {
     PB_MASS_TOO_LARGE = 10,    /* the whole-part mass above the second's range */
     PB_PLAN_MISPLACED = 11,    /* plan absent, late or repeated */
     PB_TOO_FEW_VALUES = 12,    /* percentile asked of fewer than 100 values */
-    PB_STATE_NOT_REACHED = 13  /* sweep state that these kept seconds never reach */
+    PB_STATE_NOT_REACHED = 13  /* sweep state, or reader of blocks, that is never reached */
 };
 
 /* ---- what "valid" means ---- */
@@ -154,6 +154,53 @@ pb_read_answer pb_read(const uint8_t *stream, size_t stream_bytes,
                        int32_t *altitudes, size_t altitudes_places,
                        uint32_t *co2, size_t co2_places,
                        uint32_t *nox, size_t nox_places);
+
+/* ---- a stream that arrives in blocks ---- */
+
+/*
+ * Where the reading of a stream stands between two blocks. Its members are there to be read; a
+ * reader that these calls never made is refused.
+ */
+typedef struct pb_reader {
+    uint8_t refusal; /* 0 until a bad item settles the answer: more blocks change nothing then */
+    bool planned;    /* whether the plan was read */
+    pb_plan plan;    /* zeros before it */
+    size_t seconds;  /* seconds read */
+    size_t at;       /* byte offset of the first item that was not read */
+    size_t count;    /* how many bytes of it are held, 0 to 20 */
+    uint8_t held[21];
+} pb_reader;
+
+/* The answer of feeding a block. */
+typedef struct pb_fed {
+    uint8_t refusal;  /* 0 or PB_STATE_NOT_REACHED */
+    size_t place;     /* 0 */
+    pb_reader reader; /* to be handed to the next call; all zero in a refusal */
+} pb_fed;
+
+/* The reader before the first block: all zero. */
+pb_reader pb_start(void);
+
+/*
+ * Feeds a block of any length, cut anywhere. Each second that it completes is written into the next
+ * place of each lane: hand the same lanes to every call for one stream. A bad item settles the
+ * answer, see reader.refusal; the seconds before it stay written. Refused by PB_STATE_NOT_REACHED,
+ * for a reader that these calls never made, with nothing written.
+ *
+ * No pointer is NULL, also where its count is 0, and no two lanes overlap.
+ */
+pb_fed pb_feed(pb_reader reader, const uint8_t *block, size_t block_bytes,
+               uint8_t *states, size_t states_places,
+               uint16_t *speeds, size_t speeds_places,
+               int32_t *altitudes, size_t altitudes_places,
+               uint32_t *co2, size_t co2_places,
+               uint32_t *nox, size_t nox_places);
+
+/*
+ * The answer at the end of the stream: that of pb_read for all blocks as one stream, or
+ * PB_STATE_NOT_REACHED for a reader that these calls never made.
+ */
+pb_read_answer pb_end(pb_reader reader);
 
 /* ---- the sweep over the kept seconds ---- */
 

@@ -44,6 +44,16 @@ static void layout(void)
     expect(offsetof(pb_read_answer, place) == 8, "offset of a reading's place");
     expect(offsetof(pb_read_answer, plan) == 16, "offset of a reading's plan");
     expect(offsetof(pb_read_answer, seconds) == 40, "offset of seconds");
+    expect(sizeof(pb_reader) == 72, "size of pb_reader");
+    expect(offsetof(pb_reader, planned) == 1, "offset of planned");
+    expect(offsetof(pb_reader, plan) == 4, "offset of a reader's plan");
+    expect(offsetof(pb_reader, seconds) == 24, "offset of a reader's seconds");
+    expect(offsetof(pb_reader, at) == 32, "offset of at");
+    expect(offsetof(pb_reader, count) == 40, "offset of count");
+    expect(offsetof(pb_reader, held) == 48, "offset of held");
+    expect(sizeof(pb_fed) == 88, "size of pb_fed");
+    expect(offsetof(pb_fed, place) == 8, "offset of a feed's place");
+    expect(offsetof(pb_fed, reader) == 16, "offset of reader");
     expect(sizeof(pb_sweep_state) == 32, "size of pb_sweep_state");
     expect(sizeof(pb_sweep_answer) == 64, "size of pb_sweep_answer");
     expect(offsetof(pb_sweep_answer, place) == 8, "offset of a sweep's place");
@@ -138,6 +148,17 @@ static void printed_case(void)
     read = pb_read(stream, sizeof stream - 1, states, 6, speeds, 6, altitudes, 6, co2, 6, nox, 6);
     expect(read.refusal == PB_CUT_ITEM && read.place == 81 && read.seconds == 0,
            "a cut stream is refusal 7 at its last item");
+    states[4] = 9;
+    pb_fed fed = {PB_ACCEPTED, 0, pb_start()};
+    for (size_t at = 0; at < sizeof stream; at += 8)
+        fed = pb_feed(fed.reader, stream + at, 8, states, 6, speeds, 6, altitudes, 6, co2, 6, nox, 6);
+    read = pb_end(fed.reader);
+    expect(read.refusal == 0 && read.seconds == 5 && states[4] == 1 && states[5] == 9,
+           "the stream in blocks of 8 bytes");
+    fed.reader.at++;
+    fed = pb_feed(fed.reader, stream, 1, states, 6, speeds, 6, altitudes, 6, co2, 6, nox, 6);
+    expect(fed.refusal == PB_STATE_NOT_REACHED && fed.reader.seconds == 0,
+           "a reader that was never made is refusal 13");
 }
 
 /* Examples (g) and (i): D of three speeds, and Q of 1 to 101. */

@@ -4,4 +4,3 @@ pub mod Rise
 pub mod Writing
 pub mod Refusals
 pub mod Theorems
-pub mod Examples

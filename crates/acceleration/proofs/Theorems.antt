@@ -1,22 +1,22 @@
--- What D of one second amounts to: refused exactly when, what each case of the answer says, determined. Assumes nothing.
-use Prim.Native.Nat.{ℕ, _≤_, _<_}
-use mathlib.Core.Path.{_≡_, refl, sym, _∙_}
+-- What D of one second amounts to: refused exactly when, what each case of the answer says. Assumes nothing.
+use Prim.Native.Nat.{ℕ}
+use mathlib.Core.Path.{_≡_, refl}
 use mathlib.Core.Bool.{Bool, true, false, not, _||_, or-true}
-use mathlib.Core.Logic.{_⊎_, inl, inr}
+use mathlib.Core.Logic.{inl, inr, _↔_}
 use borrow.Author.Tests.{ltb-true, ltb-false, leb-true, leb-false, lt-ltb, le-ltb, le-leb, lt-leb, eq-eqb}
-use lib.Dec.{leb, ltb}
+use lib.Dec.{leb, ltb, eqb}
 use lib.IntN.{ℤ, pos, negsuc}
-use lib.ListN.{getD}
 use Rattle.base.specs.Refusal.{fault}
 use Rattle.base.specs.Limits.{tripLimit}
 use Rattle.base.specs.Second.{tooMany}
 use Rattle.base.specs.Words.{pick}
 use Rattle.base.specs.declared.Fault.{Fault}
-use Rattle.second.specs.Lanes.{Lanes, secondsIn, lanesAgree, SameLengths, hasValues, firstBadSecond, noneHasValues}
+use Rattle.second.specs.Lanes.{Lanes, secondsIn, lanesAgree, firstBadSecond, noneHasValues}
 use Rattle.second.proofs.Lanes.{agree, agrees, not-agree, none-each, each-none}
 use Rattle.acceleration.specs.declared.Acceleration.{Acceleration}
 use Rattle.acceleration.specs.declared.Acceleration.the-variants.{Rising, Falling, None, Refused}
-use Rattle.acceleration.specs.D.{dOf, hasD, numbered, faultOf, accelerationOf, refusalOf, valueOf}
+use Rattle.acceleration.specs.D.{dOf, hasD, numbered, faultOf, accelerationOf, refusalOf, placeOf, valueOf}
+use Rattle.acceleration.specs.Outcomes.{Outcome, lanes-differ, too-many, out-of-range, no-second, fine}
 
 module _ (trip : Lanes) (i : ℕ) where
   abbrev n : ℕ
@@ -25,24 +25,12 @@ module _ (trip : Lanes) (i : ℕ) where
   abbrev bad : ℕ
   bad = firstBadSecond trip
 
-  -- no second in state 1 or 3
-  abbrev NoneHasValues : Type 0
-  NoneHasValues = (k : ℕ) → k < n → hasValues (getD (trip .states) k 0) ≡ false
-
-  -- what may be refused, each with its number, its place and what holds then, in the order 1, 2, 3, 4
-  pub data Outcome : Fault → Type 0 where
-    lanes-differ : (SameLengths trip → ⊥) → Outcome (fault 1 0)
-    too-many : SameLengths trip → tripLimit < n → Outcome (fault 2 0)
-    out-of-range : SameLengths trip → n ≤ tripLimit → bad < n → Outcome (fault 3 bad)
-    no-second : SameLengths trip → n ≤ tripLimit → n ≤ bad → NoneHasValues ⊎ (n ≤ i) → Outcome (fault 4 0)
-    fine : SameLengths trip → n ≤ tripLimit → n ≤ bad → noneHasValues (trip .states) ≡ false → i < n → Outcome (fault 0 0)
-
   -- one of them holds, with the fault that is given
-  pub outcome : Outcome (faultOf trip i)
+  pub outcome : Outcome trip i (faultOf trip i)
   unfolding faultOf
   outcome = go (lanesAgree trip) refl (tooMany n) refl (ltb bad n) refl (noneHasValues (trip .states)) refl (leb n i) refl
     where
-      go : (t₁ : Bool) → lanesAgree trip ≡ t₁ → (t₂ : Bool) → tooMany n ≡ t₂ → (t₃ : Bool) → ltb bad n ≡ t₃ → (t₄ : Bool) → noneHasValues (trip .states) ≡ t₄ → (t₅ : Bool) → leb n i ≡ t₅ → Outcome (pick (not t₁) (fault 1 0) (pick t₂ (fault 2 0) (pick t₃ (fault 3 bad) (pick (t₄ || t₅) (fault 4 0) (fault 0 0)))))
+      go : (t₁ : Bool) → lanesAgree trip ≡ t₁ → (t₂ : Bool) → tooMany n ≡ t₂ → (t₃ : Bool) → ltb bad n ≡ t₃ → (t₄ : Bool) → noneHasValues (trip .states) ≡ t₄ → (t₅ : Bool) → leb n i ≡ t₅ → Outcome trip i (pick (not t₁) (fault 1 0) (pick t₂ (fault 2 0) (pick t₃ (fault 3 bad) (pick (t₄ || t₅) (fault 4 0) (fault 0 0)))))
       go false e₁ t₂ e₂ t₃ e₃ t₄ e₄ t₅ e₅ = lanes-differ (not-agree trip e₁)
       go true e₁ true e₂ t₃ e₃ t₄ e₄ t₅ e₅ = too-many (agree trip e₁) (ltb-true tripLimit n e₂)
       go true e₁ false e₂ true e₃ t₄ e₄ t₅ e₅ = out-of-range (agree trip e₁) (ltb-false tripLimit n e₂) (ltb-true bad n e₃)
@@ -51,7 +39,7 @@ module _ (trip : Lanes) (i : ℕ) where
       go true e₁ false e₂ false e₃ false e₄ false e₅ = fine (agree trip e₁) (ltb-false tripLimit n e₂) (ltb-false bad n e₃) e₄ (leb-false n i e₅)
 
   -- and no other: each is given whenever what it says holds
-  pub only : {f : Fault} → Outcome f → faultOf trip i ≡ f
+  pub only : {f : Fault} → Outcome trip i f → faultOf trip i ≡ f
   unfolding faultOf
   only (lanes-differ differ) = go (lanesAgree trip) refl
     where
@@ -63,6 +51,27 @@ module _ (trip : Lanes) (i : ℕ) where
   only (no-second same few good (inl none)) = rw (agrees trip same, le-ltb tripLimit n few, le-ltb bad n good, each-none (trip .states) none) refl
   only (no-second same few good (inr past)) = rw (agrees trip same, le-ltb tripLimit n few, le-ltb bad n good, le-leb n i past, or-true (noneHasValues (trip .states))) refl
   only (fine same few good some inside) = rw (agrees trip same, le-ltb tripLimit n few, le-ltb bad n good, some, lt-leb n i inside) refl
+
+  -- the call gives a number and a place exactly when what stands beside them holds
+  pub refused-exactly : (f : Fault) → (faultOf trip i ≡ f) ↔ Outcome trip i f
+  refused-exactly f = (λ e. rw e at outcome, only)
+
+  -- the answer's number and place are those of the chain of tests
+  pub answer-fault : fault (refusalOf (accelerationOf trip i)) (placeOf (accelerationOf trip i)) ≡ faultOf trip i
+  unfolding accelerationOf refusalOf placeOf numbered
+  answer-fault = go (faultOf trip i) outcome
+    where
+      accepted-fault : (t : Bool) (z : ℤ) → fault (refusalOf (pick t (numbered z) None)) (placeOf (pick t (numbered z) None)) ≡ fault 0 0
+      accepted-fault true (pos d) = refl
+      accepted-fault true (negsuc d) = refl
+      accepted-fault false z = refl
+
+      go : (f : Fault) → Outcome trip i f → fault (refusalOf (pick (eqb (f .number) 0) (pick (hasD (trip .states) i) (numbered (dOf (trip .speeds) i)) None) (Refused f))) (placeOf (pick (eqb (f .number) 0) (pick (hasD (trip .states) i) (numbered (dOf (trip .speeds) i)) None) (Refused f))) ≡ f
+      go _ (lanes-differ differ) = refl
+      go _ (too-many same h) = refl
+      go _ (out-of-range same few h) = refl
+      go _ (no-second same few good none) = refl
+      go _ (fine same few good some inside) = accepted-fault (hasD (trip .states) i) (dOf (trip .speeds) i)
 
   -- accepted: D where the second has one, and that it has none where it has not
   pub accepted-has : faultOf trip i .number ≡ 0 → hasD (trip .states) i ≡ true → accelerationOf trip i ≡ numbered (dOf (trip .speeds) i)
@@ -86,7 +95,3 @@ refused-no-d (Rising d) h = absurd (h refl)
 refused-no-d (Falling d) h = absurd (h refl)
 refused-no-d None h = absurd (h refl)
 refused-no-d (Refused f) h = refl
-
--- two results that the contract allows coincide
-pub determined : {meaning r r′ : Acceleration} → r ≡ meaning → r′ ≡ meaning → r ≡ r′
-determined p q = p ∙ sym q

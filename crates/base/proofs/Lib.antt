@@ -1,4 +1,4 @@
--- The laws of the words that every definition uses, of searches and stores, of differences of numbers and of altitudes. Callers cite these and not the definitions' text.
+-- The laws of the words that every definition uses, of tests, searches and stores, of differences of numbers and of altitudes. Callers cite these and not the definitions' text.
 pub mod Choice
 pub mod Tests
 pub mod Seconds
@@ -9,3 +9,4 @@ pub mod Store
 pub mod Products
 pub mod Integers
 pub mod Altitude
+pub mod InFront

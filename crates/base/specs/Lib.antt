@@ -5,3 +5,4 @@ pub mod Second
 pub mod Plan
 pub mod Words
 pub mod Meaning
+pub mod InFront

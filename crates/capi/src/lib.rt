@@ -4,6 +4,7 @@
 
 pub mod accelerations;
 pub mod concentration;
+pub mod feeding;
 pub mod meaning;
 pub mod streams;
 pub mod sweeping;

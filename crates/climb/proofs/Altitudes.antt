@@ -29,6 +29,11 @@ module _ (states : List ℕ) (altitudes : List ℤ) where
   before-at-most zero = omega arith
   before-at-most (suc i) = recorded-at-most i
 
+  -- a missing second has no altitude
+  pub recorded-none : (i : ℕ) → hasValues (getD states i 0) ≡ false → recordedAt states altitudes i ≡ 0
+  unfolding recordedAt
+  recorded-none i lacks = rw lacks refl
+
   -- past the end nothing is recorded
   pub recorded-past : (i : ℕ) → length states ≤ i → recordedAt states altitudes i ≡ 0
   unfolding recordedAt hasValues

@@ -1,3 +1,4 @@
 -- The laws of altitudes and of the climb.
 pub mod Altitudes
-pub mod Examples
+pub mod High
+pub mod EndsDiffer

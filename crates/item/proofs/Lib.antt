@@ -1,5 +1,8 @@
--- The laws of numbers in bytes, of the table of kinds and of one item.
+-- The laws of numbers in bytes, read and written, of the table of kinds, of one item, and of an item with more bytes behind it.
 pub mod Numbers
+pub mod Encoding
 pub mod Table
 pub mod Fronts
 pub mod Views
+pub mod Prefix
+pub mod Refused

@@ -1,15 +1,15 @@
--- What the definitions of the mass step amount to: refused exactly when, determined, the floor, a zero of either sign, example (l). Assumes nothing.
+-- What the definitions of the mass step amount to: refused exactly when, the floor, a zero of either sign. Assumes nothing.
 use Prim.Native.Nat.{ℕ, _+_, _*_, _/_, _≤_, _<_}
-use mathlib.Core.Path.{_≡_, refl, sym, _∙_, ap}
-use mathlib.Core.Bool.{Bool, true, false, _&&_, false≢true}
+use mathlib.Core.Path.{_≡_, refl, sym}
+use mathlib.Core.Bool.{Bool, true, false, _&&_}
 use mathlib.Core.Logic.{_↔_}
-use native.Mathlib.Nat.{div-mul-le-self, lt-div-mul-add, add-mul, one-mul, mul-zero, zero-mul, zero-div, lt-irrefl, lt-of-lt-of-le}
+use native.Mathlib.Nat.{div-mul-le-self, lt-div-mul-add, add-mul, one-mul, zero-mul, zero-div}
 use native.Mathlib.Omega.{arith}
 use lib.Dec.{leb, lit≤}
-use lib.IntN.{ℤ, pos, negsuc}
-use lib.Ieee.{Float, fin, ofInt, le, lt, eq, mul, round, up, down}
+use lib.IntN.{ℤ, pos}
+use lib.Ieee.{Float, fin, ofInt, le, lt, eq, up, down}
 use lib.Ieee.Fits.{down-pos}
-use borrow.Author.Tests.{leb-true, leb-false, eqb-false}
+use borrow.Author.Tests.{leb-true, leb-false, le-leb, lt-leb}
 use Rattle.base.specs.Words.{pick}
 use Rattle.mass.specs.declared.Reading.{Reading}
 use Rattle.mass.specs.declared.Reading.the-variants.{WetPpm, DryPpm, WetPercent, DryPercent}
@@ -17,70 +17,41 @@ use Rattle.mass.specs.declared.Setting.{Setting}
 use Rattle.mass.specs.declared.Weighed.{Weighed}
 use Rattle.mass.specs.declared.Weighed.the-variants.{Mass, BadInput, TooLarge}
 use Rattle.mass.specs.Bounded.{Bounded, bounded}
-use Rattle.mass.specs.Mass.{zeroTo, aboveZeroTo, readingInRange, settingInRange, inPpm, isDry, wetPpm, lastProduct, wholePart, massAnswer, co2Mass, noxMass, refusalOf, wholeMassOf}
+use Rattle.mass.specs.Mass.{zeroTo, readingInRange, settingInRange, inPpm, lastProduct, wholePart, massAnswer, refusalOf, wholeMassOf}
+use Rattle.mass.specs.Outcomes.{Outcome, bad-input, too-large, fine}
 use Rattle.mass.proofs.Products.{times-bounded}
-use Rattle.mass.proofs.Inputs.{SettingBounded, setting-bounded, ppm-in-percent, wet-at-most, wet-bounded}
+use Rattle.mass.proofs.Inputs.{setting-bounded, ppm-in-percent, wet-at-most, wet-bounded}
 use Rattle.mass.proofs.Answer.{whole-mass}
 
 -- ---- refused exactly when
--- the answer by its two tests
-data Case (scale : Float) (limit : ℕ) (reading : Reading) (s : Setting) : Type 0 where
-  out : readingInRange reading && settingInRange s ≡ false → massAnswer scale limit reading s ≡ BadInput → Case scale limit reading s
-  above : readingInRange reading && settingInRange s ≡ true → limit < wholePart (lastProduct scale reading s) → massAnswer scale limit reading s ≡ TooLarge → Case scale limit reading s
-  fine : readingInRange reading && settingInRange s ≡ true → wholePart (lastProduct scale reading s) ≤ limit → massAnswer scale limit reading s ≡ Mass (wholePart (lastProduct scale reading s)) → Case scale limit reading s
-
-case-of : (scale : Float) (limit : ℕ) (reading : Reading) (s : Setting) → Case scale limit reading s
-unfolding massAnswer
-case-of scale limit reading s = go (readingInRange reading && settingInRange s) refl (leb whole limit) refl
-  where
-    whole : ℕ
-    whole = wholePart (lastProduct scale reading s)
-
-    go : (t : Bool) → readingInRange reading && settingInRange s ≡ t → (l : Bool) → leb whole limit ≡ l → Case scale limit reading s
-    go false p l q = out p (rw p)
-    go true p false q = above p (leb-false whole limit q) (rw (p, q))
-    go true p true q = fine p (leb-true whole limit q) (rw (p, q))
-
 module _ (scale : Float) (limit : ℕ) (reading : Reading) (s : Setting) where
-  -- "a mass input not finite or out of range"
-  pub refused-9 : (refusalOf (massAnswer scale limit reading s) ≡ 9) ↔ (readingInRange reading && settingInRange s ≡ false)
-  unfolding refusalOf
-  refused-9 = (there (case-of scale limit reading s), back (case-of scale limit reading s))
+  -- one of them holds, with the answer that is given
+  pub outcome : Outcome scale limit reading s (massAnswer scale limit reading s)
+  unfolding massAnswer
+  outcome = go (readingInRange reading && settingInRange s) refl (leb whole limit) refl
     where
-      there : Case scale limit reading s → refusalOf (massAnswer scale limit reading s) ≡ 9 → readingInRange reading && settingInRange s ≡ false
-      there (out p e) h = p
-      there (above p l e) h = absurd (eqb-false 10 9 refl (sym (ap refusalOf e) ∙ h))
-      there (fine p l e) h = absurd (eqb-false 0 9 refl (sym (ap refusalOf e) ∙ h))
+      whole : ℕ
+      whole = wholePart (lastProduct scale reading s)
 
-      back : Case scale limit reading s → readingInRange reading && settingInRange s ≡ false → refusalOf (massAnswer scale limit reading s) ≡ 9
-      back (out p e) h = ap refusalOf e
-      back (above p l e) h = absurd (false≢true (sym h ∙ p))
-      back (fine p l e) h = absurd (false≢true (sym h ∙ p))
+      go : (t : Bool) → readingInRange reading && settingInRange s ≡ t → (l : Bool) → leb whole limit ≡ l → Outcome scale limit reading s (pick t (pick l (Mass whole) TooLarge) BadInput)
+      go false p l q = bad-input p
+      go true p false q = too-large p (leb-false whole limit q)
+      go true p true q = fine p (leb-true whole limit q)
 
-  -- "the whole-part mass above the second's range", after 9
-  pub refused-10 : (refusalOf (massAnswer scale limit reading s) ≡ 10) ↔ ((readingInRange reading && settingInRange s ≡ true) × (limit < wholePart (lastProduct scale reading s)))
-  unfolding refusalOf
-  refused-10 = (there (case-of scale limit reading s), back (case-of scale limit reading s))
-    where
-      there : Case scale limit reading s → refusalOf (massAnswer scale limit reading s) ≡ 10 → (readingInRange reading && settingInRange s ≡ true) × (limit < wholePart (lastProduct scale reading s))
-      there (out p e) h = absurd (eqb-false 9 10 refl (sym (ap refusalOf e) ∙ h))
-      there (above p l e) h = (p, l)
-      there (fine p l e) h = absurd (eqb-false 0 10 refl (sym (ap refusalOf e) ∙ h))
+  -- and no other: each is given whenever what it says holds
+  pub only : {answer : Weighed} → Outcome scale limit reading s answer → massAnswer scale limit reading s ≡ answer
+  unfolding massAnswer
+  only (bad-input p) = rw p
+  only (too-large p l) = rw (p, lt-leb (wholePart (lastProduct scale reading s)) limit l)
+  only (fine p l) = rw (p, le-leb (wholePart (lastProduct scale reading s)) limit l)
 
-      back : Case scale limit reading s → (readingInRange reading && settingInRange s ≡ true) × (limit < wholePart (lastProduct scale reading s)) → refusalOf (massAnswer scale limit reading s) ≡ 10
-      back (out p e) h = absurd (false≢true (sym p ∙ h .0))
-      back (above p l e) h = ap refusalOf e
-      back (fine p l e) h = absurd (lt-irrefl limit (lt-of-lt-of-le (h .1) l))
+  pub refused-exactly : (answer : Weighed) → (massAnswer scale limit reading s ≡ answer) ↔ Outcome scale limit reading s answer
+  refused-exactly answer = (λ e. rw e at outcome, only)
 
-  -- otherwise accepted, and the answer is the whole part of the last product
-  pub accepted-0 : (refusalOf (massAnswer scale limit reading s) ≡ 0) ↔ (massAnswer scale limit reading s ≡ Mass (wholePart (lastProduct scale reading s)))
-  unfolding refusalOf
-  accepted-0 = (there (case-of scale limit reading s), λ e. ap refusalOf e)
-    where
-      there : Case scale limit reading s → refusalOf (massAnswer scale limit reading s) ≡ 0 → massAnswer scale limit reading s ≡ Mass (wholePart (lastProduct scale reading s))
-      there (out p e) h = absurd (eqb-false 9 0 refl (sym (ap refusalOf e) ∙ h))
-      there (above p l e) h = absurd (eqb-false 10 0 refl (sym (ap refusalOf e) ∙ h))
-      there (fine p l e) h = e
+-- the paper's numbers of the three cases
+pub numbers : (refusalOf BadInput ≡ 9) × (refusalOf TooLarge ≡ 10) × ((m : ℕ) → refusalOf (Mass m) ≡ 0)
+unfolding refusalOf
+numbers = (refl, refl, λ m. refl)
 
 -- a refusal has no mass
 pub refused-no-mass : (answer : Weighed) → (refusalOf answer ≡ 0 → ⊥) → wholeMassOf answer ≡ 0
@@ -88,10 +59,6 @@ unfolding refusalOf wholeMassOf
 refused-no-mass (Mass m) h = absurd (h refl)
 refused-no-mass BadInput h = refl
 refused-no-mass TooLarge h = refl
-
--- ---- determined: two results that the contract allows coincide, for CO2 and for NOx
-pub determined : {answer r r' : Weighed} → r ≡ answer → r' ≡ answer → r ≡ r'
-determined p q = p ∙ sym q
 
 -- ---- the whole part is the floor: at most the number m * 2 ^ e = m * up e / down e, and less than 1 below it
 pub floor : (t : Bool) (m : ℕ) (e : ℤ) → (wholePart (fin t m e) * down e ≤ m * up e) × (m * up e < (wholePart (fin t m e) + 1) * down e)
@@ -150,8 +117,3 @@ zero-flow {scale} limit reading s b sign zero r h =
     let wet = times-bounded (in-range .u) (wet-bounded reading (s .factor) r (in-range .factor)) (lit≤ tt) in
     let none = times-bounded (times-bounded wet flow (lit≤ tt)) b (lit≤ tt) in
     whole-mass scale limit reading s r h (sym (no-whole none)) (omega arith)
-
--- ---- example (l): dry ppm 1,024, u 2^-10, factor 0.5, flow 0.125: 62 mg
-pub example-l : co2Mass (DryPpm (fin false 1 (pos 10))) (record { u = fin false 1 (negsuc 9); factor = fin false 1 (negsuc 0); flow = fin false 1 (negsuc 2) }) ≡ Mass 62
-unfolding co2Mass massAnswer readingInRange settingInRange zeroTo aboveZeroTo le lt eq ofInt round inPpm isDry wetPpm lastProduct wholePart mul
-example-l = refl

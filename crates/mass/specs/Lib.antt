@@ -1,3 +1,4 @@
 -- The definitions of the mass step.
 pub mod Mass
 pub mod Bounded
+pub mod Outcomes

@@ -3,4 +3,3 @@ pub mod Refusals
 pub mod Interpolation
 pub mod Front
 pub mod Theorems
-pub mod Examples

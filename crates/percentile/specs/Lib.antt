@@ -1,2 +1,3 @@
 -- The definitions of the percentile.
 pub mod Percentile
+pub mod Outcomes

@@ -2,3 +2,4 @@
 pub mod Items
 pub mod Reading
 pub mod Inside
+pub mod Outcomes

@@ -16,11 +16,12 @@ use Rattle.base.proofs.Choice.{both-ways}
 use Rattle.sweep.specs.declared.SweepState.{SweepState}
 use Rattle.sweep.specs.Sweep.{beginning, closes, afterClosing, afterTaking, isOver, move, moveEnds, afterMoves, movesMade, endsAfter}
 use Rattle.sweep.specs.Window.{massFrom, hasWindow, windowEnd, windows}
+use Rattle.sweep.specs.Runs.{IsWindow, Written}
 use Rattle.sweep.specs.Inside.{Standing}
 use Rattle.sweep.proofs.Prefix.{first-rises}
 use Rattle.sweep.proofs.Moves.{Next, next, begins, open-window, stands-move, stands-after}
 use Rattle.sweep.proofs.Reached.{moves-counted, made-most, fewer-over, over-facts}
-use Rattle.sweep.proofs.Windows.{IsWindow, window-is, window-has, window-by-sums, can-by-sums, has-none, mass-from, counted, at-least}
+use Rattle.sweep.proofs.Windows.{window-is, window-has, window-by-sums, can-by-sums, has-none, mass-from, counted, at-least}
 
 module _ (reference : ℕ) (co2 : List ℕ) where
   -- the numbers of a sweep that is over
@@ -28,13 +29,6 @@ module _ (reference : ℕ) (co2 : List ℕ) where
     pub taken : s .taken ≡ length co2
     pub dropped : s .dropped ≡ windows reference co2
     pub moves : s .moves ≡ length co2 + windows reference co2
-
-  -- the place of each second that the run drops holds its window's end, every other place what it held
-  pub record Written (s t : SweepState) (before after : List ℕ) : Type 0 where
-    pub same-length : length after ≡ length before
-    pub ends : (f : ℕ) → s .dropped ≤ f → f < t .dropped → getD after f 0 ≡ windowEnd reference co2 f
-    pub earlier : (f : ℕ) → f < s .dropped → getD after f 0 ≡ getD before f 0
-    pub later : (f : ℕ) → t .dropped ≤ f → getD after f 0 ≡ getD before f 0
 
 module _ (reference : ℕ) (co2 : List ℕ) (positive : 1 ≤ reference) where
   -- what a move closes is the window of the second that it drops

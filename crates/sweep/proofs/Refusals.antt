@@ -18,6 +18,7 @@ use Rattle.base.proofs.Products.{product-at-most}
 use Rattle.base.proofs.Sums.{sum-bound}
 use Rattle.sweep.specs.declared.SweepState.{SweepState}
 use Rattle.sweep.specs.Sweep.{endsAfter, isReached, firstOutOfRange, sweepRefusal, runAnswer, refusedAnswer, sweepAnswer, sweepEnds}
+use Rattle.sweep.specs.Outcomes.{Accepted, Outcome, bad-reference, too-many, too-short, bad-mass, never-reached, fine}
 use Rattle.sweep.specs.Inside.{Measured, Ready}
 use Rattle.sweep.proofs.Reached.{both, reached-stands}
 
@@ -54,24 +55,7 @@ measured co2 few h =
     record { few = omega arith; light = omega arith }
 
 module _ (reference : ℕ) (co2 : List ℕ) (room : ℕ) (s : SweepState) where
-  -- a call that is accepted
-  pub record Accepted : Type 0 where
-    pub reference-in-range : referenceInRange reference ≡ true
-    pub few : length co2 ≤ tripLimit
-    pub places : length co2 ≤ room
-    pub in-range : length co2 ≤ firstOutOfRange co2
-    pub reached : isReached reference co2 s ≡ true
-
-  -- the six outcomes, each with its number
-  pub data Outcome : ℕ → Type 0 where
-    bad-reference : referenceInRange reference ≡ false → Outcome planOutOfRange
-    too-many : referenceInRange reference ≡ true → tripLimit < length co2 → Outcome tooManyValues
-    too-short : referenceInRange reference ≡ true → length co2 ≤ tripLimit → room < length co2 → Outcome laneTooShort
-    bad-mass : referenceInRange reference ≡ true → length co2 ≤ tripLimit → length co2 ≤ room → firstOutOfRange co2 < length co2 → Outcome outOfRange
-    never-reached : referenceInRange reference ≡ true → length co2 ≤ tripLimit → length co2 ≤ room → length co2 ≤ firstOutOfRange co2 → isReached reference co2 s ≡ false → Outcome stateNotReached
-    fine : Accepted → Outcome accepted
-
-  pub outcome : Outcome (sweepRefusal reference co2 room s)
+  pub outcome : Outcome reference co2 room s (sweepRefusal reference co2 room s)
   unfolding sweepRefusal
   outcome =
       go (referenceInRange reference) refl (tooMany (length co2)) refl (ltb room (length co2)) refl (ltb (firstOutOfRange co2) (length co2)) refl (isReached reference co2 s) refl
@@ -82,7 +66,7 @@ module _ (reference : ℕ) (co2 : List ℕ) (room : ℕ) (s : SweepState) where
           (d : Bool) → ltb room (length co2) ≡ d →
           (e : Bool) → ltb (firstOutOfRange co2) (length co2) ≡ e →
           (f : Bool) → isReached reference co2 s ≡ f →
-          Outcome (pick (not a) planOutOfRange (pick b tooManyValues (pick d laneTooShort (pick e outOfRange (pick (not f) stateNotReached accepted)))))
+          Outcome reference co2 room s (pick (not a) planOutOfRange (pick b tooManyValues (pick d laneTooShort (pick e outOfRange (pick (not f) stateNotReached accepted)))))
       go false p b q d r e t f u = bad-reference p
       go true p true q d r e t f u = too-many p (ltb-true tripLimit (length co2) q)
       go true p false q true r e t f u = too-short p (ltb-false tripLimit (length co2) q) (ltb-true room (length co2) r)
@@ -93,7 +77,7 @@ module _ (reference : ℕ) (co2 : List ℕ) (room : ℕ) (s : SweepState) where
       go true p false q false r false t true u =
           fine (record { reference-in-range = p; few = ltb-false tripLimit (length co2) q; places = ltb-false room (length co2) r; in-range = ltb-false (firstOutOfRange co2) (length co2) t; reached = u })
 
-  pub gives : {refusal : ℕ} → Outcome refusal → sweepRefusal reference co2 room s ≡ refusal
+  pub gives : {refusal : ℕ} → Outcome reference co2 room s refusal → sweepRefusal reference co2 room s ≡ refusal
   unfolding sweepRefusal
   gives (bad-reference p) = rw p
   gives (too-many p q) = rw (p, lt-ltb tripLimit (length co2) q)
@@ -106,10 +90,10 @@ module _ (reference : ℕ) (co2 : List ℕ) (room : ℕ) (s : SweepState) where
       rw (ok .reference-in-range, le-ltb tripLimit (length co2) (ok .few), le-ltb room (length co2) (ok .places), le-ltb (firstOutOfRange co2) (length co2) (ok .in-range), ok .reached)
 
   -- a call with number 0 passed every test
-  pub passed : sweepRefusal reference co2 room s ≡ accepted → Accepted
+  pub passed : sweepRefusal reference co2 room s ≡ accepted → Accepted reference co2 room s
   passed zero-number = go (sweepRefusal reference co2 room s) outcome zero-number
     where
-      go : (refusal : ℕ) → Outcome refusal → refusal ≡ accepted → Accepted
+      go : (refusal : ℕ) → Outcome reference co2 room s refusal → refusal ≡ accepted → Accepted reference co2 room s
       go _ (bad-reference p) e = absurd (eqb-false planOutOfRange accepted refl e)
       go _ (too-many p q) e = absurd (eqb-false tooManyValues accepted refl e)
       go _ (too-short p q r) e = absurd (eqb-false laneTooShort accepted refl e)
@@ -118,7 +102,7 @@ module _ (reference : ℕ) (co2 : List ℕ) (room : ℕ) (s : SweepState) where
       go _ (fine ok) e = ok
 
   -- and is ready to run
-  pub ready : Accepted → Ready reference co2 room s
+  pub ready : Accepted reference co2 room s → Ready reference co2 room s
   ready ok =
       let range = both (leb 1 reference) (leb reference referenceMost) (ok .reference-in-range) in
       let positive = leb-true 1 reference (range .0) in

@@ -1,4 +1,4 @@
--- What the definitions of the sweep amount to for its callers: refused exactly when, determined, resumed, run to its end. The laws of windows are in
+-- What the definitions of the sweep amount to for its callers: refused exactly when, resumed, run to its end. The laws of windows are in
 -- `Windows`, those of the machine in `Finished`. Assumes nothing.
 use Prim.Native.Nat.{ℕ, _+_, _≤_, _<_}
 use mathlib.Core.Path.{_≡_, refl, sym, _∙_, ap}
@@ -18,12 +18,14 @@ use Rattle.base.proofs.FirstBad.{first-bad-is}
 use Rattle.sweep.specs.declared.SweepState.{SweepState}
 use Rattle.sweep.specs.declared.Swept.{Swept}
 use Rattle.sweep.specs.Sweep.{beginning, isOver, afterMoves, movesMade, endsAfter, placeOf, sweepRefusal, runAnswer, refusedAnswer, sweepAnswer, sweepEnds}
-use Rattle.sweep.specs.Window.{hasWindow, windowEnd, windows}
+use Rattle.sweep.specs.Window.{windows}
+use Rattle.sweep.specs.Outcomes.{Accepted, Outcome}
+use Rattle.sweep.specs.Runs.{Written, Spent, Resumed, Whole}
 use Rattle.sweep.proofs.Moves.{begins, stands-after}
-use Rattle.sweep.proofs.Reached.{both, moves-counted, stands-reached}
-use Rattle.sweep.proofs.Refusals.{Accepted, Outcome, outcome, gives, ready, accepted-answer, accepted-ends}
+use Rattle.sweep.proofs.Reached.{both, moves-counted, made-most, fewer-over, stands-reached}
+use Rattle.sweep.proofs.Refusals.{outcome, gives, passed, ready, refused-answer, accepted-answer, refused-ends, accepted-ends}
 use Rattle.sweep.proofs.Windows.{windows-most}
-use Rattle.sweep.proofs.Finished.{Written, ended, over-exactly, written, finished-ends, state-composes, ends-compose, moves-compose}
+use Rattle.sweep.proofs.Finished.{ended, over-exactly, written, finished-ends, state-composes, ends-compose, moves-compose}
 
 module _ (reference : ℕ) (co2 : List ℕ) (room : ℕ) (s : SweepState) where
   -- ---- refused exactly when
@@ -44,6 +46,17 @@ module _ (reference : ℕ) (co2 : List ℕ) (room : ℕ) (s : SweepState) where
       go _ (Outcome.never-reached p q r t u) = (refl, refl)
       go _ (Outcome.fine ok) = (refl, refl)
 
+  -- a refusal has all other results zero
+  pub refused-zeros : (budget : ℕ) → (sweepAnswer reference co2 room s budget .refusal ≡ accepted → ⊥) → sweepAnswer reference co2 room s budget ≡ refusedAnswer co2 (sweepAnswer reference co2 room s budget .refusal)
+  refused-zeros budget bad =
+      let same = answer-refusal budget .0 in
+      refused-answer reference co2 room s budget (λ z. bad (same ∙ z)) ∙ ap (refusedAnswer co2) (sym same)
+
+  -- the answer gives a number exactly when what stands beside it holds
+  pub answered-exactly : (budget refusal : ℕ) → (sweepAnswer reference co2 room s budget .refusal ≡ refusal) ↔ Outcome reference co2 room s refusal
+  answered-exactly budget refusal =
+      (λ e. refused-exactly refusal .0 (sym (answer-refusal budget .0) ∙ e), λ o. answer-refusal budget .0 ∙ refused-exactly refusal .1 o)
+
   -- ---- resumed
   -- the state that an accepted call answers is accepted again
   pub accepted-again : (budget : ℕ) → Accepted reference co2 room s → Accepted reference co2 room (afterMoves reference co2 budget s)
@@ -56,10 +69,6 @@ module _ (reference : ℕ) (co2 : List ℕ) (room : ℕ) (s : SweepState) where
         in-range = ok .in-range;
         reached = stands-reached reference co2 (go .positive) (afterMoves reference co2 budget s) (stands-after reference co2 (go .positive) budget s (go .stands));
       }
-
--- ---- determined: two results that the contract allows coincide, the lane too
-pub determined {ℓ} : {A : Type ℓ} {meaning r r' : A} → r ≡ meaning → r' ≡ meaning → r ≡ r'
-determined p q = p ∙ sym q
 
 -- what an accepted call answers, and the lane that it leaves
 module _ (reference : ℕ) (co2 ends : List ℕ) (s : SweepState) (ok : Accepted reference co2 (length ends) s) where
@@ -78,12 +87,23 @@ module _ (reference : ℕ) (co2 ends : List ℕ) (s : SweepState) (ok : Accepted
       let go = ready reference co2 (length ends) s ok in
       rw (run-written budget) (written reference co2 (go .positive) budget s ends (go .stands) (ok .places))
 
--- two calls, one after the other, are one call with both budgets: state, moves, whether it is over, and lane
-pub record Resumed (first second whole : Swept) (lane whole-lane : List ℕ) : Type 0 where
-  pub state : second .state ≡ whole .state
-  pub moves : first .moves + second .moves ≡ whole .moves
-  pub over : second .over ≡ whole .over
-  pub ends : lane ≡ whole-lane
+-- the same by the answer's number
+module _ (reference : ℕ) (co2 ends : List ℕ) (s : SweepState) (budget : ℕ) where
+  -- a refusal "writes into no lane"
+  pub refused-writes-nothing : (sweepAnswer reference co2 (length ends) s budget .refusal ≡ accepted → ⊥) → sweepEnds reference co2 ends s budget ≡ ends
+  refused-writes-nothing bad =
+      refused-ends reference co2 ends s budget (λ z. bad (answer-refusal reference co2 (length ends) s budget .0 ∙ z))
+
+  pub is-accepted : sweepAnswer reference co2 (length ends) s budget .refusal ≡ accepted → Accepted reference co2 (length ends) s
+  is-accepted z = passed reference co2 (length ends) s (sym (answer-refusal reference co2 (length ends) s budget .0) ∙ z)
+
+  pub accepted-writes : sweepAnswer reference co2 (length ends) s budget .refusal ≡ accepted → Written reference co2 s (afterMoves reference co2 budget s) ends (sweepEnds reference co2 ends s budget)
+  accepted-writes z = only-closed reference co2 ends s (is-accepted z) budget
+
+module _ (reference : ℕ) (co2 : List ℕ) where
+  pub spent : (ends : List ℕ) (s : SweepState) → Accepted reference co2 (length ends) s → (budget : ℕ) → Spent budget (sweepAnswer reference co2 (length ends) s budget)
+  spent ends s ok budget =
+      rw (run-answered reference co2 ends s ok budget) (record { no-more = made-most reference co2 budget s; fewer-if-over = fewer-over reference co2 budget s })
 
 module _ (reference : ℕ) (co2 ends : List ℕ) (s : SweepState) (a b : ℕ) where
   abbrev pub firstAnswer : Swept
@@ -107,15 +127,6 @@ module _ (reference : ℕ) (co2 ends : List ℕ) (s : SweepState) (a b : ℕ) wh
         over = rw (first, second, whole) (ap (λ (v : SweepState). isOver reference co2 v) (sym (state-composes reference co2 a b s)));
         ends = rw (first, lane-second, run-written reference co2 ends s ok a, run-written reference co2 ends s ok (a + b)) (sym (ends-compose reference co2 a b s ends));
       }
-
--- ---- run to its end, from the beginning: it is over, has dropped each window's first second, and the lane holds the ends
-pub record Whole (reference : ℕ) (co2 before after : List ℕ) (answer : Swept) : Type 0 where
-  pub refusal : answer .refusal ≡ accepted
-  pub over : answer .over ≡ true
-  pub dropped : answer .state .dropped ≡ windows reference co2
-  pub moves : answer .moves ≡ length co2 + windows reference co2
-  pub ends : (f : ℕ) → getD after f 0 ≡ pick (hasWindow reference co2 f) (windowEnd reference co2 f) (getD before f 0)
-  pub same-length : length after ≡ length before
 
 module _ (reference : ℕ) (co2 ends : List ℕ) (budget : ℕ) where
   pub whole : Accepted reference co2 (length ends) beginning → length co2 + length co2 ≤ budget → Whole reference co2 ends (sweepEnds reference co2 ends beginning budget) (sweepAnswer reference co2 (length ends) beginning budget)

@@ -12,6 +12,7 @@ use Rattle.base.proofs.Choice.{both-ways}
 use Rattle.base.proofs.FirstBad.{IsFirstBad, first-bad, first-bad-is}
 use Rattle.base.proofs.Sums.{sum-part}
 use Rattle.sweep.specs.Window.{massFrom, windowLast, hasWindow, windowsAmong, windows}
+use Rattle.sweep.specs.Runs.{IsWindow}
 use Rattle.sweep.proofs.Prefix.{first-rises}
 
 -- the sum from f on, by the sums from the front
@@ -19,18 +20,11 @@ pub mass-from : (co2 : List ℕ) (f k : ℕ) → sumFirst f co2 + massFrom co2 f
 mass-from co2 f k = sym (sum-part f (suc k) co2)
 
 module _ (reference : ℕ) (co2 : List ℕ) where
-  -- the window from kept second f ends at l: the CO2 sum f to l reaches the reference, and no shorter one does
-  pub record IsWindow (f l : ℕ) : Type 0 where
-    pub from : f ≤ l
-    pub within : l < length co2
-    pub reaches : reference ≤ massFrom co2 f (l - f)
-    pub shortest : (k : ℕ) → k < l - f → massFrom co2 f k < reference
-
   first : (f : ℕ) → IsFirstBad (λ k. ltb (massFrom co2 f k) reference) (length co2 - f) (firstBad (λ k. ltb (massFrom co2 f k) reference) (length co2 - f))
   first f = first-bad (λ k. ltb (massFrom co2 f k) reference) (length co2 - f)
 
   -- each window is the shortest run from its first kept second that reaches the reference
-  pub window : (f : ℕ) → hasWindow reference co2 f ≡ true → IsWindow f (windowLast reference co2 f)
+  pub window : (f : ℕ) → hasWindow reference co2 f ≡ true → IsWindow reference co2 f (windowLast reference co2 f)
   unfolding hasWindow windowLast
   window f h =
       let run = firstBad (λ k. ltb (massFrom co2 f k) reference) (length co2 - f) in
@@ -45,13 +39,13 @@ module _ (reference : ℕ) (co2 : List ℕ) where
       }
 
   -- and there is only one such run
-  pub window-is : (f l : ℕ) → IsWindow f l → windowLast reference co2 f ≡ l
+  pub window-is : (f l : ℕ) → IsWindow reference co2 f l → windowLast reference co2 f ≡ l
   unfolding windowLast
   window-is f l w =
       let run : firstBad (λ k. ltb (massFrom co2 f k) reference) (length co2 - f) ≡ l - f = first-bad-is (λ k. ltb (massFrom co2 f k) reference) (length co2 - f) (l - f) (record { within = omega (arith, w .within); before = λ k h. lt-ltb (massFrom co2 f k) reference (w .shortest k h); there = λ h. le-ltb (massFrom co2 f (l - f)) reference (w .reaches) }) in
       omega (arith, w .from)
 
-  pub window-has : (f l : ℕ) → IsWindow f l → hasWindow reference co2 f ≡ true
+  pub window-has : (f l : ℕ) → IsWindow reference co2 f l → hasWindow reference co2 f ≡ true
   unfolding hasWindow
   window-has f l w = lt-ltb (windowLast reference co2 f) (length co2) (omega (arith, window-is f l w, w .within))
 
@@ -76,7 +70,7 @@ module _ (reference : ℕ) (co2 : List ℕ) where
           absurd (omega arith)
 
   -- a window by the sums from the front
-  pub window-by-sums : (f l : ℕ) → f ≤ l → l < length co2 → reference + sumFirst f co2 ≤ sumFirst (suc l) co2 → ((k : ℕ) → k < l → sumFirst (suc k) co2 < reference + sumFirst f co2) → IsWindow f l
+  pub window-by-sums : (f l : ℕ) → f ≤ l → l < length co2 → reference + sumFirst f co2 ≤ sumFirst (suc l) co2 → ((k : ℕ) → k < l → sumFirst (suc k) co2 < reference + sumFirst f co2) → IsWindow reference co2 f l
   window-by-sums f l h n reaches light =
       let e : f + suc (l - f) ≡ suc l = omega arith in
       let up : sumFirst (f + suc (l - f)) co2 ≡ sumFirst (suc l) co2 = ap (λ (k : ℕ). sumFirst k co2) e in
@@ -84,7 +78,7 @@ module _ (reference : ℕ) (co2 : List ℕ) where
       record { from = h; within = n; reaches = omega (arith, mass-from co2 f (l - f)); shortest = short }
 
   -- a window reaches the reference, by the sums from the front
-  pub reaches-by-sums : (f l : ℕ) → IsWindow f l → reference + sumFirst f co2 ≤ sumFirst (suc l) co2
+  pub reaches-by-sums : (f l : ℕ) → IsWindow reference co2 f l → reference + sumFirst f co2 ≤ sumFirst (suc l) co2
   reaches-by-sums f l w =
       let e : f + suc (l - f) ≡ suc l = omega (arith, w .from) in
       let up : sumFirst (f + suc (l - f)) co2 ≡ sumFirst (suc l) co2 = ap (λ (k : ℕ). sumFirst k co2) e in

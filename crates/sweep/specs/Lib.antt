@@ -2,3 +2,5 @@
 pub mod Window
 pub mod Sweep
 pub mod Inside
+pub mod Outcomes
+pub mod Runs

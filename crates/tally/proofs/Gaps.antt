@@ -10,13 +10,8 @@ use lib.Dec.{ltb, eqb}
 use lib.ListN.{getD}
 use Rattle.base.specs.Second.{missing}
 use Rattle.base.specs.Words.{pick, afterFirst}
+use Rattle.tally.specs.Facts.{Gap}
 use Rattle.tally.specs.Counts.{larger, gapWith, gapAfter, longestGap}
-
--- more than k missing in a row, from second f on, among the first n seconds
-pub record Gap (states : List ℕ) (n k : ℕ) : Type 0 where
-  pub from : ℕ
-  pub within : from + suc k ≤ n
-  pub all-missing : (j : ℕ) → j < suc k → getD states (from + j) 0 ≡ missing
 
 -- a gap of more than k missing seconds that ends the first so many seconds
 record LongAt (states : List ℕ) (n k : ℕ) : Type 0 where

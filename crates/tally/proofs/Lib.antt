@@ -3,3 +3,4 @@ pub mod Sums
 pub mod Tallies
 pub mod Seconds
 pub mod Gaps
+pub mod SomeSecond

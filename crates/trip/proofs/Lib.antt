@@ -4,4 +4,5 @@ pub mod Passed
 pub mod Answers
 pub mod Refused
 pub mod Written
+pub mod Verdict
 pub mod Theorems

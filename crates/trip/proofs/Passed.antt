@@ -23,14 +23,8 @@ use Rattle.bins.specs.Bins.{BinLanes}
 use Rattle.climb.specs.Climb.{ClimbLanes}
 use Rattle.trip.specs.declared.Rooms.{Rooms}
 use Rattle.trip.specs.Refusals.{tooShort, tripFault, isAccepted}
+use Rattle.trip.specs.Outcomes.{Places}
 use Rattle.trip.proofs.Chain.{gives-plan, gives-differ, gives-many, gives-short, gives-bad, gives-none, gives-accepted}
-
--- a place per second in each lent lane
-pub record Places (rooms : Rooms) (n : ℕ) : Type 0 where
-  pub for-speeds : n ≤ rooms .speeds
-  pub for-co2 : n ≤ rooms .co2
-  pub for-ends : n ≤ rooms .ends
-  pub for-ranks : n ≤ rooms .ranks
 
 pub places : (rooms : Rooms) (n : ℕ) → tooShort rooms n ≡ false → Places rooms n
 unfolding tooShort
@@ -117,16 +111,30 @@ module _ (plan : Plan) (trip : Lanes) (rooms : Rooms) where
   unfolding isAccepted
   is-refused e = ne-eqb _ _ e
 
--- a kept second has values in range
+-- a second in state 1 or 3 has values in range
+module _ (trip : Lanes) (i : ℕ) (good : secondInRange trip i ≡ true) (has : hasValues (getD (trip .states) i 0) ≡ true) where
+  values-in-range : valuesInRange trip i ≡ true
+  unfolding secondInRange
+  values-in-range =
+      let rest = and-right (stateKnown (getD (trip .states) i 0)) (not (hasValues (getD (trip .states) i 0)) || valuesInRange trip i) good in
+      rw has at rest
+
+  pub altitude-in-range : altitudeInRange (getD (trip .altitudes) i (pos 0)) ≡ true
+  altitude-in-range =
+      let s = speedInRange (getD (trip .speeds) i 0) in
+      let a = altitudeInRange (getD (trip .altitudes) i (pos 0)) in
+      let c = co2InRange (getD (trip .co2) i 0) in
+      let n = noxInRange (getD (trip .nox) i 0) in
+      and-right s a (and-left (s && a) c (and-left (s && a && c) n values-in-range))
+
+-- so has a kept second
 module _ (trip : Lanes) (i : ℕ) (good : secondInRange trip i ≡ true) (kept : secondKept (getD (trip .states) i 0) (getD (trip .speeds) i 0) ≡ true) where
   is-measured : eqb (getD (trip .states) i 0) measured ≡ true
   is-measured = and-left (eqb (getD (trip .states) i 0) measured) (leb 100 (getD (trip .speeds) i 0)) kept
 
   all-in-range : valuesInRange trip i ≡ true
-  unfolding secondInRange hasValues
-  all-in-range =
-      let rest = and-right (stateKnown (getD (trip .states) i 0)) (not (hasValues (getD (trip .states) i 0)) || valuesInRange trip i) good in
-      rw is-measured at rest
+  unfolding hasValues
+  all-in-range = values-in-range trip i good (rw is-measured refl)
 
   pub kept-speed-in-range : getD (trip .speeds) i 0 ≤ speedMost
   kept-speed-in-range =

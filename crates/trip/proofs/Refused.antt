@@ -3,7 +3,7 @@
 use Prim.Native.Nat.{ℕ, _≤_, _<_}
 use mathlib.Core.Path.{_≡_, refl, sym, _∙_, ap}
 use mathlib.Core.Bool.{Bool, true, false, not, false≢true}
-use mathlib.Core.Logic.{_⊎_, _↔_}
+use mathlib.Core.Logic.{_↔_}
 use native.Mathlib.Nat.{le-refl}
 use native.Mathlib.Omega.{arith}
 use borrow.Author.Tests.{ltb-true, ltb-false, lt-ltb, le-ltb, eqb-true, not-true}
@@ -11,7 +11,6 @@ use lib.Dec.{ltb}
 use lib.ListN.{getD}
 use Rattle.base.specs.declared.Plan.{Plan}
 use Rattle.base.specs.Limits.{tripLimit}
-use Rattle.base.specs.Plan.{planInRange}
 use Rattle.base.specs.Refusal.{outOfRange, fault}
 use Rattle.base.specs.Second.{tooMany}
 use Rattle.base.specs.Words.{firstBad}
@@ -24,36 +23,9 @@ use Rattle.reasons.proofs.Says.{Says, says-or, says-below}
 use Rattle.trip.specs.declared.Rooms.{Rooms}
 use Rattle.trip.specs.Refusals.{tooShort, tripFault, isAccepted}
 use Rattle.trip.specs.Trip.{answerOf, refused, concluded, answerFrom}
+use Rattle.trip.specs.Outcomes.{Places, TooShort, FirstBadAt, AllInRange, NoSecond, Given, plan-out-of-range, lanes-differ, too-many, lane-too-short, out-of-range, no-second, none}
 use Rattle.trip.proofs.Chain.{gives-plan, gives-differ, gives-many, gives-short, gives-bad, gives-none, gives-accepted}
-use Rattle.trip.proofs.Passed.{Places, places, Outcome, outcome}
-
--- "a lane to be written is too short": a lent lane has no place for one of n seconds
-abbrev pub TooShort : Rooms → ℕ → Type 0
-TooShort rooms n = (((rooms .speeds < n) ⊎ (rooms .co2 < n)) ⊎ (rooms .ends < n)) ⊎ (rooms .ranks < n)
-
--- "a state or value out of range": this second is the first that is
-pub record FirstBadAt (trip : Lanes) (i : ℕ) : Type 0 where
-  pub within : i < secondsIn trip
-  pub bad : secondInRange trip i ≡ false
-  pub before : (k : ℕ) → k < i → secondInRange trip k ≡ true
-
--- every second is in range
-abbrev pub AllInRange : Lanes → Type 0
-AllInRange trip = (i : ℕ) → i < secondsIn trip → secondInRange trip i ≡ true
-
--- "no second in state 1 or 3"
-abbrev pub NoSecond : Lanes → Type 0
-NoSecond trip = (i : ℕ) → i < secondsIn trip → hasValues (getD (trip .states) i 0) ≡ false
-
--- what is given, in the order 5, 1, 2, 6, 3, 4: the number and the place, with the conditions
-pub data Given (plan : Plan) (trip : Lanes) (rooms : Rooms) : Fault → Type 0 where
-  plan-out-of-range : planInRange plan ≡ false → Given plan trip rooms (fault 5 0)
-  lanes-differ : planInRange plan ≡ true → (SameLengths trip → ⊥) → Given plan trip rooms (fault 1 0)
-  too-many : planInRange plan ≡ true → SameLengths trip → tripLimit < secondsIn trip → Given plan trip rooms (fault 2 0)
-  lane-too-short : planInRange plan ≡ true → SameLengths trip → secondsIn trip ≤ tripLimit → TooShort rooms (secondsIn trip) → Given plan trip rooms (fault 6 0)
-  out-of-range : planInRange plan ≡ true → SameLengths trip → secondsIn trip ≤ tripLimit → Places rooms (secondsIn trip) → (i : ℕ) → FirstBadAt trip i → Given plan trip rooms (fault 3 i)
-  no-second : planInRange plan ≡ true → SameLengths trip → secondsIn trip ≤ tripLimit → Places rooms (secondsIn trip) → AllInRange trip → NoSecond trip → Given plan trip rooms (fault 4 0)
-  none : planInRange plan ≡ true → SameLengths trip → secondsIn trip ≤ tripLimit → Places rooms (secondsIn trip) → AllInRange trip → (NoSecond trip → ⊥) → Given plan trip rooms (fault 0 0)
+use Rattle.trip.proofs.Passed.{places, Outcome, outcome}
 
 -- ---- each test says its condition
 says-short : (rooms : Rooms) (n : ℕ) → Says (tooShort rooms n) (TooShort rooms n)

@@ -15,7 +15,8 @@ use Rattle.base.proofs.Sums.{sum-bound}
 use Rattle.kept.specs.Kept.{keptSpeedLeast}
 use Rattle.sweep.specs.Sweep.{beginning, sweepAnswer, sweepEnds}
 use Rattle.sweep.specs.Window.{windowEnd}
-use Rattle.sweep.proofs.Theorems.{Whole, whole, accepts-beginning}
+use Rattle.sweep.specs.Runs.{Whole}
+use Rattle.sweep.proofs.Theorems.{whole, accepts-beginning}
 use Rattle.sweep.proofs.Windows.{first-have}
 use Rattle.windows.specs.Inside.{SweptLanes}
 use Rattle.windows.proofs.PlanRanges.{plan-ranges}

@@ -77,6 +77,20 @@ unfolding counted
 one-more figure counts h =
     omega (arith, exchanged counts (figure .class) (withWindow (figure .inside) (getD counts (figure .class) noCount)) h)
 
+-- the cell of the window's class has one more, and no other cell changes
+module _ (figure : Figure) (counts : List ClassCount) where
+  counted-length : length (counted figure counts) ≡ length counts
+  unfolding counted
+  counted-length = length-set counts (figure .class) _
+
+  pub counted-at : figure .class < length counts → getD (counted figure counts) (figure .class) noCount ≡ withWindow (figure .inside) (getD counts (figure .class) noCount)
+  unfolding counted
+  counted-at h = getD-set-same counts (figure .class) _ noCount h
+
+  pub counted-other : (k : ℕ) → (k ≡ figure .class → ⊥) → getD (counted figure counts) k noCount ≡ getD counts k noCount
+  unfolding counted
+  counted-other k ne = getD-set-other counts (figure .class) k _ noCount ne
+
 le-step : {a b : ℕ} → a ≤ b → a ≤ suc b
 le-step h = omega arith
 
@@ -89,6 +103,10 @@ module _ (plan : Plan) (speeds co2 : List ℕ) where
   unfolding countsAt
   counts-none = after-none (withSecond plan speeds co2) noCounts
 
+  pub counts-end : countsAt (length co2) ≡ countsOf plan speeds co2
+  unfolding countsAt countsOf
+  counts-end = refl
+
   -- one second more, which has a window
   pub counts-more : (i : ℕ) → hasWindow (plan .reference) co2 i ≡ true → countsAt (i + 1) ≡ counted (windowFigure plan speeds co2 i) (countsAt i)
   unfolding countsAt
@@ -97,7 +115,7 @@ module _ (plan : Plan) (speeds co2 : List ℕ) where
       ∙ ap (λ (t : Bool). pick t (counted (windowFigure plan speeds co2 i) (countsAt i)) (countsAt i)) h
 
   -- one without
-  counts-same : (i : ℕ) → hasWindow (plan .reference) co2 i ≡ false → countsAt (i + 1) ≡ countsAt i
+  pub counts-same : (i : ℕ) → hasWindow (plan .reference) co2 i ≡ false → countsAt (i + 1) ≡ countsAt i
   unfolding countsAt
   counts-same i h =
       after-more (withSecond plan speeds co2) noCounts i
@@ -134,34 +152,24 @@ module _ (plan : Plan) (speeds co2 : List ℕ) where
       class-known (meanSpeed (sum (windowPart reference co2 f speeds)) (windowEnd reference co2 f - f))
 
   counted-bounded : (i : ℕ) (figure : Figure) (counts : List ClassCount) → figure .class < 4 → Bounded i counts → Bounded (suc i) (counted figure counts)
-  unfolding counted
   counted-bounded i figure counts known b =
       record {
-        four = length-set counts (figure .class) more ∙ b .four;
+        four = counted-length figure counts ∙ b .four;
         few = λ k. by-few k (eqb k (figure .class)) refl;
         part = λ k. by-part k (eqb k (figure .class)) refl;
       }
     where
-      old : ClassCount
-      old = getD counts (figure .class) noCount
+      at : (k : ℕ) → k ≡ figure .class → getD (counted figure counts) k noCount ≡ withWindow (figure .inside) (getD counts (figure .class) noCount)
+      at k e = rw e (counted-at figure counts (omega (arith, b .four)))
 
-      more : ClassCount
-      more = withWindow (figure .inside) old
-
-      at : (k : ℕ) → k ≡ figure .class → getD (set counts (figure .class) more) k noCount ≡ more
-      at k e = rw e (getD-set-same counts (figure .class) more noCount (omega (arith, b .four)))
-
-      other : (k : ℕ) → (k ≡ figure .class → ⊥) → getD (set counts (figure .class) more) k noCount ≡ getD counts k noCount
-      other k ne = getD-set-other counts (figure .class) k more noCount ne
-
-      by-few : (k : ℕ) (t : Bool) → eqb k (figure .class) ≡ t → getD (set counts (figure .class) more) k noCount .windows ≤ suc i
+      by-few : (k : ℕ) (t : Bool) → eqb k (figure .class) ≡ t → getD (counted figure counts) k noCount .windows ≤ suc i
       by-few k true e = rw (at k (eqb-true k (figure .class) e)) (omega (arith, b .few (figure .class)))
-      by-few k false e = rw (other k (eqb-false k (figure .class) e)) (omega (arith, b .few k))
+      by-few k false e = rw (counted-other figure counts k (eqb-false k (figure .class) e)) (omega (arith, b .few k))
 
-      by-part : (k : ℕ) (t : Bool) → eqb k (figure .class) ≡ t → getD (set counts (figure .class) more) k noCount .inside ≤ getD (set counts (figure .class) more) k noCount .windows
+      by-part : (k : ℕ) (t : Bool) → eqb k (figure .class) ≡ t → getD (counted figure counts) k noCount .inside ≤ getD (counted figure counts) k noCount .windows
       by-part k true e =
           rw (at k (eqb-true k (figure .class) e)) (omega (arith, b .part (figure .class), one-most (figure .inside)))
-      by-part k false e = rw (other k (eqb-false k (figure .class) e)) (b .part k)
+      by-part k false e = rw (counted-other figure counts k (eqb-false k (figure .class) e)) (b .part k)
 
   none-bounded : Bounded 0 noCounts
   none-bounded = record { four = refl; few = λ k. empty-few k; part = λ k. empty-part k }

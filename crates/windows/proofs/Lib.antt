@@ -6,4 +6,4 @@ pub mod PlanRanges
 pub mod Classes
 pub mod Counts
 pub mod AfterSweep
-pub mod Examples
+pub mod ByClass

@@ -1,6 +1,7 @@
 -- The counts of windows and of windows inside, class by class; what a window is comes from the sweep's definitions, not from the sweep.
-use Prim.Native.Nat.{ℕ, _+_, _-_}
-use mathlib.Core.Bool.{Bool}
+use Prim.Native.Nat.{ℕ, _+_, _-_, _<_}
+use mathlib.Core.Path.{_≡_}
+use mathlib.Core.Bool.{Bool, true}
 use mathlib.Core.List.{List, [], _∷_}
 use lib.ListN.{length, take, drop, getD, set}
 use Rattle.base.specs.declared.Plan.{Plan}
@@ -49,3 +50,10 @@ countsOf plan speeds co2 = afterFirst (withSecond plan speeds co2) noCounts (len
 unfoldable pub allWindows : List ClassCount → ℕ
 allWindows [] = 0
 allWindows (count ∷ counts) = count .windows + allWindows counts
+
+-- one of the first n kept seconds has a window of a class
+pub record WindowOf (plan : Plan) (speeds co2 : List ℕ) (class n : ℕ) : Type 0 where
+  pub first : ℕ
+  pub within : first < n
+  pub has-window : hasWindow (plan .reference) co2 first ≡ true
+  pub of-class : windowFigure plan speeds co2 first .class ≡ class

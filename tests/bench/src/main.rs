@@ -3,6 +3,7 @@
 mod mass;
 mod percentile;
 mod plain_trip;
+mod program;
 mod stream;
 mod sweep;
 mod timing;
@@ -20,6 +21,7 @@ fn main() {
         percentile::bench(),
         trip::bench(),
     ];
+    program::bench();
     println!();
     println!(
         "{:<48} {:>10} {:>10}",

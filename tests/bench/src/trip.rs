@@ -3,7 +3,7 @@
 use library::{Bin, Class, Lent, Plan, Tally, Trip, TripAnswer};
 
 use crate::plain_trip;
-use crate::timing::{against, best, print, Growth, Took};
+use crate::timing::{against, best, print, Growth};
 
 /// A trip's lanes, and the lanes that it lends.
 struct Lanes {
@@ -19,7 +19,7 @@ struct Lanes {
 }
 
 const PLAN: Plan = Plan {
-    reference: 1_900_000,
+    reference: 2_700_000,
     e1: 150_000,
     e2: 140_000,
     e3: 160_000,
@@ -29,6 +29,12 @@ const PLAN: Plan = Plan {
     motorway: 40,
 };
 
+/// A reference that windows of some hundred seconds reach, in short trips too.
+const SHORT_WINDOWS: Plan = Plan {
+    reference: 200_000,
+    ..PLAN
+};
+
 /// A reference that no window of these trips reaches.
 const NO_WINDOWS: Plan = Plan {
     reference: 20_000_000,
@@ -36,34 +42,41 @@ const NO_WINDOWS: Plan = Plan {
 };
 
 pub fn bench() -> Growth {
-    let small = timed("a trip of 1,024 seconds", 1_024, drive);
     timed("a trip of 7,200 seconds", 7_200, drive);
-    let large = timed("a trip of 8,192 seconds", 8_192, drive);
+    timed("a trip of 8,192 seconds", 8_192, drive);
     timed(
         "8,192 seconds, long windows, all accelerating",
         8_192,
         worst,
     );
     figures();
+    let [small, large] = [1_024, 8_192].map(|seconds| {
+        let mut ours = lanes(seconds, drive);
+        let mut theirs = lanes(seconds, drive);
+        best(
+            "growth",
+            || folded(evaluate(SHORT_WINDOWS, &mut ours)),
+            || folded(plain(SHORT_WINDOWS, &mut theirs)),
+        )
+    });
     Growth {
-        work: "a trip",
+        work: "a trip with windows of one length",
         small,
         large,
     }
 }
 
 /// Times the evaluation of a trip, and compares all that it answers and writes.
-fn timed(name: &str, seconds: usize, second: fn(&mut Drive, usize) -> (u16, u32)) -> Took {
+fn timed(name: &str, seconds: usize, second: fn(&mut Drive, usize) -> (u16, u32)) {
     let mut ours = lanes(seconds, second);
     let mut theirs = lanes(seconds, second);
-    let took = against(
+    against(
         name,
         || folded(evaluate(PLAN, &mut ours)),
         || folded(plain(PLAN, &mut theirs)),
     );
     assert!(ours.ranks == theirs.ranks && ours.ends == theirs.ends);
     assert_eq!(evaluate(PLAN, &mut ours), plain(PLAN, &mut theirs));
-    took
 }
 
 /// The figures of a trip's windows alone: what the trip takes more than the same trip without one.
@@ -141,9 +154,10 @@ fn drive(drive: &mut Drive, i: usize) -> (u16, u32) {
     (drive.speed as u16, co2)
 }
 
-/// The worst kind found: nearly every second accelerates, and windows are long.
+/// The worst kind found: nearly every second accelerates, and half the seconds begin a window of half
+/// the trip.
 fn worst(_: &mut Drive, i: usize) -> (u16, u32) {
-    ((i * 97 % 16_000) as u16, 300)
+    ((i * 97 % 16_000) as u16, PLAN.reference / 4_096)
 }
 
 fn lanes(seconds: usize, second: fn(&mut Drive, usize) -> (u16, u32)) -> Lanes {

@@ -4,8 +4,9 @@ use library::{AccelerationAnswer, PercentileAnswer};
 use oracle::dynamics as paper;
 
 use crate::account::{Account, Comparison};
+use crate::lanes::Lanes;
 use crate::random::Random;
-use crate::trips::{self, Lanes};
+use crate::trips;
 
 const LIMIT: usize = 8_192;
 const GUARD: u32 = 0xa5a5_a5a5;
@@ -24,7 +25,7 @@ pub fn compare(account: &mut Account) {
 
 fn d(comparison: &mut Comparison, trip: &Lanes, index: usize) {
     let mut wanted = AccelerationAnswer::default();
-    match paper::d_of_second(trip.on_paper(), index) {
+    match paper::d_of_second(trip.trip_on_paper(), index) {
         Err(refusal) => {
             wanted.refusal = refusal.number;
             wanted.place = refusal.place;
@@ -36,7 +37,7 @@ fn d(comparison: &mut Comparison, trip: &Lanes, index: usize) {
             wanted.fall = (-d).max(0) as u16;
         }
     }
-    comparison.same(library::acceleration(trip.lent(), index), wanted, || {
+    comparison.same(library::acceleration(trip.trip(), index), wanted, || {
         format!("second {index} of {trip:?}")
     });
 }

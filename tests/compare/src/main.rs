@@ -1,14 +1,18 @@
-//! Compares the library with the independent program.
+//! Compares the library and the program with the independent program.
 //!
-//!     compare [SEED]
+//!     compare [--soak] [SEED]
 //!
 //! Each comparison prints how many inputs it tried and is one test; a difference is printed with
-//! its input, and the seed that brings it back. The last line is `N passed, M failed`.
+//! its input, and the seed that brings it back. A soak goes on with seeds of its own, and runs the
+//! program on every prefix of a full stream. The last line is `N passed, M failed`.
 
 mod account;
+mod blocks;
 mod dynamics;
+mod lanes;
 mod mass;
 mod probe;
+mod program;
 mod random;
 mod stream;
 mod streams;
@@ -20,16 +24,40 @@ use account::Account;
 
 const SEED: u64 = 2017_1151;
 
+/// The seeds that a soak goes through, from the first on.
+const SOAK_SEEDS: u64 = 8;
+
 fn main() {
-    let seed = std::env::args().nth(1).map_or(SEED, |word| {
-        word.parse().expect("the seed is a whole number")
-    });
+    let mut seed = SEED;
+    let mut soak = false;
+    for word in std::env::args().skip(1) {
+        if word == "--soak" {
+            soak = true;
+        } else {
+            seed = word.parse().expect("the seed is a whole number");
+        }
+    }
     let mut account = Account::new(seed);
-    mass::compare(&mut account);
-    stream::compare(&mut account);
-    sweep::compare(&mut account);
-    dynamics::compare(&mut account);
-    probe::compare(&mut account);
-    trip::compare(&mut account);
+    compare_library(&mut account);
+    if soak {
+        for more in 1..SOAK_SEEDS {
+            account.seed = seed.wrapping_add(more);
+            compare_library(&mut account);
+        }
+        account.seed = seed;
+        program::compare(&mut account, &program::ALL);
+    } else {
+        program::compare(&mut account, &program::SOME);
+    }
     std::process::exit(account.close());
+}
+
+fn compare_library(account: &mut Account) {
+    mass::compare(account);
+    stream::compare(account);
+    blocks::compare(account);
+    sweep::compare(account);
+    dynamics::compare(account);
+    probe::compare(account);
+    trip::compare(account);
 }

@@ -2,10 +2,10 @@
 //! comparisons of the dynamics, whose products pass 64 bits, and the judgement of one window.
 
 use library::probe::{too_dull, too_lively, window, WindowProbe};
-use library::Plan;
 use oracle::{dynamics, windows};
 
 use crate::account::{Account, Comparison};
+use crate::lanes::plan_of;
 use crate::random::Random;
 use crate::trips;
 
@@ -92,16 +92,6 @@ fn turns(comparison: &mut Comparison, seed: u64) {
 }
 
 fn judged(comparison: &mut Comparison, plan: &oracle::Plan, s: u32, m: u32, n: usize) {
-    let across = Plan {
-        reference: plan.reference,
-        e1: plan.e1,
-        e2: plan.e2,
-        e3: plan.e3,
-        lower: plan.lower,
-        urban: plan.upper[0],
-        rural: plan.upper[1],
-        motorway: plan.upper[2],
-    };
     let v = windows::mean_speed(i128::from(s), n as i128);
     let class = windows::class(v);
     let w = windows::figure(i128::from(m), i128::from(s));
@@ -112,7 +102,7 @@ fn judged(comparison: &mut Comparison, plan: &oracle::Plan, s: u32, m: u32, n: u
         inside,
         class: class.unwrap_or(3),
     };
-    comparison.same(window(across, s, m, n), wanted, || {
+    comparison.same(window(plan_of(plan), s, m, n), wanted, || {
         format!("{plan:?}, S {s}, m {m}, n {n}")
     });
 }

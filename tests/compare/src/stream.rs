@@ -1,38 +1,16 @@
 //! The trip stream: one item, and a whole stream into lanes.
 
-use library::{ItemAnswer, Plan, ReadAnswer};
+use library::ItemAnswer;
 use oracle::item as paper_item;
 use oracle::stream as paper;
 
 use crate::account::{Account, Comparison};
+use crate::lanes::{answer_by_paper, plan_of, Lanes};
 use crate::random::Random;
 use crate::streams;
 
 /// More seconds than one call takes.
 const TOO_MANY: usize = 8_193;
-
-/// The five lanes, each of its own length, with what the caller left in them.
-#[derive(Clone, Debug, PartialEq, Eq)]
-struct Lanes {
-    states: Vec<u8>,
-    speeds: Vec<u16>,
-    altitudes: Vec<i32>,
-    co2: Vec<u32>,
-    nox: Vec<u32>,
-}
-
-impl Lanes {
-    /// Lanes of these lengths, filled with values that no stream leaves there.
-    fn guarded(lengths: [usize; 5]) -> Lanes {
-        Lanes {
-            states: vec![0xa5; lengths[0]],
-            speeds: vec![0xa5a5; lengths[1]],
-            altitudes: vec![-0x5a5a_5a5b; lengths[2]],
-            co2: vec![0xa5a5_a5a5; lengths[3]],
-            nox: vec![0xa5a5_a5a5; lengths[4]],
-        }
-    }
-}
 
 pub fn compare(account: &mut Account) {
     let seed = account.seed;
@@ -55,19 +33,6 @@ pub fn compare(account: &mut Account) {
     account.compare("stream, more seconds than a call takes", |c| {
         too_many(c, seed)
     });
-}
-
-fn plan_of(plan: &oracle::Plan) -> Plan {
-    Plan {
-        reference: plan.reference,
-        e1: plan.e1,
-        e2: plan.e2,
-        e3: plan.e3,
-        lower: plan.lower,
-        urban: plan.upper[0],
-        rural: plan.upper[1],
-        motorway: plan.upper[2],
-    }
 }
 
 /// One item on both sides.
@@ -98,39 +63,11 @@ fn item(comparison: &mut Comparison, bytes: &[u8]) {
 /// A whole stream on both sides: the answer and every place of every lane.
 fn read(comparison: &mut Comparison, bytes: &[u8], lengths: [usize; 5]) {
     let (mut ours, mut theirs) = (Lanes::guarded(lengths), Lanes::guarded(lengths));
-    let got = library::read(
-        bytes,
-        library::Lanes {
-            states: &mut ours.states,
-            speeds: &mut ours.speeds,
-            altitudes: &mut ours.altitudes,
-            co2: &mut ours.co2,
-            nox: &mut ours.nox,
-        },
-    );
-    let wanted = paper::read(
-        bytes,
-        &mut paper::StreamLanes {
-            states: &mut theirs.states,
-            speeds: &mut theirs.speeds,
-            altitudes: &mut theirs.altitudes,
-            co2: &mut theirs.co2,
-            nox: &mut theirs.nox,
-        },
-    );
-    let mut answer = ReadAnswer::default();
-    match wanted {
-        Ok(found) => {
-            answer.plan = plan_of(&found.plan);
-            answer.seconds = found.seconds;
-        }
-        Err(refusal) => {
-            answer.refusal = refusal.number;
-            answer.place = refusal.place;
-        }
-    }
+    let got = library::read(bytes, ours.lent());
+    let wanted = paper::read(bytes, &mut theirs.lent_on_paper());
+    let wanted = answer_by_paper(wanted.map(|found| (found.plan, found.seconds)));
     let same_lanes = ours == theirs;
-    comparison.same((got, same_lanes), (answer, true), || {
+    comparison.same((got, same_lanes), (wanted, true), || {
         format!(
             "lanes {lengths:?}, {} bytes {:02x?}",
             bytes.len(),
@@ -254,27 +191,9 @@ fn every_prefix(comparison: &mut Comparison, seed: u64) {
 
 /// A cut stream: refused with nothing written, or readable because the cut lies between items.
 fn prefix(comparison: &mut Comparison, bytes: &[u8], ours: &mut Lanes, untouched: &Lanes) {
-    let got = library::read(
-        bytes,
-        library::Lanes {
-            states: &mut ours.states,
-            speeds: &mut ours.speeds,
-            altitudes: &mut ours.altitudes,
-            co2: &mut ours.co2,
-            nox: &mut ours.nox,
-        },
-    );
-    let mut wanted = ReadAnswer::default();
-    match paper::items(bytes, TOO_MANY - 1) {
-        Ok((plan, seconds)) => {
-            wanted.plan = plan_of(&plan);
-            wanted.seconds = seconds.len();
-        }
-        Err(refusal) => {
-            wanted.refusal = refusal.number;
-            wanted.place = refusal.place;
-        }
-    }
+    let got = library::read(bytes, ours.lent());
+    let wanted = paper::items(bytes, TOO_MANY - 1);
+    let wanted = answer_by_paper(wanted.map(|(plan, seconds)| (plan, seconds.len())));
     let written_only_if_read = got.refusal == 0 || *ours == *untouched;
     if got.refusal == 0 {
         ours.clone_from(untouched);

@@ -1,6 +1,9 @@
 //! Streams to read: whole ones, and what a logger that loses power, doubles or mixes up makes of
 //! them.
 
+use oracle::second::Second;
+use oracle::Plan;
+
 use crate::random::Random;
 
 pub const PLAN: u8 = 0x10;
@@ -65,6 +68,27 @@ pub fn whole(random: &mut Random, seconds: usize) -> Vec<u8> {
     for _ in 0..seconds {
         let kind = kind(random);
         bytes.extend(second(random, kind, 0));
+    }
+    bytes
+}
+
+/// The stream that a logger writes of a trip. A missing second has no values.
+pub fn of_trip(plan: &Plan, seconds: &[Second]) -> Vec<u8> {
+    let mut bytes = vec![PLAN];
+    for number in [plan.reference, plan.e1, plan.e2, plan.e3] {
+        bytes.extend(number.to_be_bytes());
+    }
+    bytes.push(plan.lower);
+    bytes.extend(plan.upper);
+    for second in seconds {
+        // A second's kind is its state.
+        bytes.push(second.state);
+        if second.state != MISSING {
+            bytes.extend(second.speed.to_be_bytes());
+            bytes.extend(second.altitude.to_be_bytes());
+            bytes.extend(second.co2.to_be_bytes());
+            bytes.extend(second.nox.to_be_bytes());
+        }
     }
     bytes
 }

@@ -1,12 +1,13 @@
 //! Whole trips: the answer, the verdict and every place of the four lent lanes.
 
-use library::{Bin, Class, Plan, Tally, TripAnswer};
+use library::{Bin, Class, Tally, TripAnswer};
 use oracle::second::Second;
 use oracle::trip as paper;
 
 use crate::account::{Account, Comparison};
+use crate::lanes::{plan_of, Lanes};
 use crate::random::Random;
-use crate::trips::{self, Lanes};
+use crate::trips;
 
 const LIMIT: usize = 8_192;
 const REASONS: usize = 16;
@@ -42,19 +43,6 @@ pub fn compare(account: &mut Account) {
     account.compare("trip, every refusal and pairs of them", |c| {
         refusals(c, seed)
     });
-}
-
-fn across(plan: &oracle::Plan) -> Plan {
-    Plan {
-        reference: plan.reference,
-        e1: plan.e1,
-        e2: plan.e2,
-        e3: plan.e3,
-        lower: plan.lower,
-        urban: plan.upper[0],
-        rural: plan.upper[1],
-        motorway: plan.upper[2],
-    }
 }
 
 fn of_paper(answer: &paper::TripAnswer) -> TripAnswer {
@@ -99,8 +87,8 @@ fn evaluate(
 ) -> TripAnswer {
     let (mut ours, mut theirs) = (Lent::guarded(places), Lent::guarded(places));
     let got = library::evaluate(
-        across(plan),
-        trip.lent(),
+        plan_of(plan),
+        trip.trip(),
         library::Lent {
             kept_speeds: &mut ours.kept_speeds,
             kept_co2: &mut ours.kept_co2,
@@ -110,7 +98,7 @@ fn evaluate(
     );
     let wanted = paper::evaluate(
         plan,
-        trip.on_paper(),
+        trip.trip_on_paper(),
         &mut paper::LentLanes {
             kept_speeds: &mut theirs.kept_speeds,
             kept_co2: &mut theirs.kept_co2,

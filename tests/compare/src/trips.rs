@@ -3,39 +3,10 @@
 use oracle::second::Second;
 use oracle::Plan;
 
+use crate::lanes::Lanes;
 use crate::random::Random;
 
-/// A trip's five lanes.
-#[derive(Clone, Debug, Default, PartialEq, Eq)]
-pub struct Lanes {
-    pub states: Vec<u8>,
-    pub speeds: Vec<u16>,
-    pub altitudes: Vec<i32>,
-    pub co2: Vec<u32>,
-    pub nox: Vec<u32>,
-}
-
 impl Lanes {
-    pub fn of(seconds: &[Second]) -> Lanes {
-        Lanes {
-            states: seconds.iter().map(|s| s.state).collect(),
-            speeds: seconds.iter().map(|s| s.speed).collect(),
-            altitudes: seconds.iter().map(|s| s.altitude).collect(),
-            co2: seconds.iter().map(|s| s.co2).collect(),
-            nox: seconds.iter().map(|s| s.nox).collect(),
-        }
-    }
-
-    pub fn lent(&self) -> library::Trip<'_> {
-        library::Trip {
-            states: &self.states,
-            speeds: &self.speeds,
-            altitudes: &self.altitudes,
-            co2: &self.co2,
-            nox: &self.nox,
-        }
-    }
-
     /// Puts one state or value out of its range.
     pub fn spoil(&mut self, random: &mut Random) {
         let at = random.below(self.states.len() as u64) as usize;
@@ -59,16 +30,6 @@ impl Lanes {
             2 => drop(self.altitudes.pop()),
             3 => drop(self.co2.pop()),
             _ => drop(self.nox.pop()),
-        }
-    }
-
-    pub fn on_paper(&self) -> oracle::second::TripLanes<'_> {
-        oracle::second::TripLanes {
-            states: &self.states,
-            speeds: &self.speeds,
-            altitudes: &self.altitudes,
-            co2: &self.co2,
-            nox: &self.nox,
         }
     }
 }

@@ -7,8 +7,8 @@ pub mod probe;
 mod raw;
 
 pub use raw::{
-    AccelerationAnswer, Bin, Class, ItemAnswer, MassAnswer, PercentileAnswer, Plan, ReadAnswer,
-    Setting, SweepAnswer, SweepState, Tally, TripAnswer,
+    AccelerationAnswer, Bin, Class, Fed, ItemAnswer, MassAnswer, PercentileAnswer, Plan,
+    ReadAnswer, Reader, Setting, SweepAnswer, SweepState, Tally, TripAnswer,
 };
 
 /// The release of the meaning of "valid" by which this build answers.
@@ -63,6 +63,40 @@ pub fn read(stream: &[u8], lanes: Lanes) -> ReadAnswer {
             lanes.nox.len(),
         )
     }
+}
+
+/// The reader before the first block.
+pub fn start() -> Reader {
+    // Safety: plain numbers come out.
+    unsafe { raw::pb_start() }
+}
+
+/// Feeds a block of a stream, cut anywhere.
+pub fn feed(reader: Reader, block: &[u8], lanes: Lanes) -> Fed {
+    // Safety: each pointer and the count after it are those of one slice, and no two overlap.
+    unsafe {
+        raw::pb_feed(
+            reader,
+            block.as_ptr(),
+            block.len(),
+            lanes.states.as_mut_ptr(),
+            lanes.states.len(),
+            lanes.speeds.as_mut_ptr(),
+            lanes.speeds.len(),
+            lanes.altitudes.as_mut_ptr(),
+            lanes.altitudes.len(),
+            lanes.co2.as_mut_ptr(),
+            lanes.co2.len(),
+            lanes.nox.as_mut_ptr(),
+            lanes.nox.len(),
+        )
+    }
+}
+
+/// The answer at the end of a stream that came in blocks.
+pub fn end(reader: Reader) -> ReadAnswer {
+    // Safety: plain numbers go in and come out.
+    unsafe { raw::pb_end(reader) }
 }
 
 /// A budget of moves of the sweep, from a state.

@@ -57,6 +57,28 @@ pub struct ReadAnswer {
     pub seconds: usize,
 }
 
+/// `pb_reader`
+#[repr(C)]
+#[derive(Clone, Copy, Debug, Default, PartialEq, Eq)]
+pub struct Reader {
+    pub refusal: u8,
+    pub planned: bool,
+    pub plan: Plan,
+    pub seconds: usize,
+    pub at: usize,
+    pub count: usize,
+    pub held: [u8; 21],
+}
+
+/// `pb_fed`
+#[repr(C)]
+#[derive(Clone, Copy, Debug, Default, PartialEq, Eq)]
+pub struct Fed {
+    pub refusal: u8,
+    pub place: usize,
+    pub reader: Reader,
+}
+
 /// `pb_sweep_state`
 #[repr(C)]
 #[derive(Clone, Copy, Debug, Default, PartialEq, Eq)]
@@ -166,6 +188,23 @@ extern "C" {
         nox: *mut u32,
         nox_places: usize,
     ) -> ReadAnswer;
+    pub fn pb_start() -> Reader;
+    pub fn pb_feed(
+        reader: Reader,
+        block: *const u8,
+        block_bytes: usize,
+        states: *mut u8,
+        states_places: usize,
+        speeds: *mut u16,
+        speeds_places: usize,
+        altitudes: *mut i32,
+        altitudes_places: usize,
+        co2: *mut u32,
+        co2_places: usize,
+        nox: *mut u32,
+        nox_places: usize,
+    ) -> Fed;
+    pub fn pb_end(reader: Reader) -> ReadAnswer;
     pub fn pb_sweep(
         reference: u32,
         co2: *const u32,

@@ -8,8 +8,9 @@ use borrow.Author.Tests.{leb-true, leb-false, ltb-true, ltb-false, not-true, not
 use Rattle.base.specs.Limits.{tripLimit, referenceMost}
 use Rattle.base.specs.Plan.{referenceInRange}
 use Rattle.sweep.specs.Sweep.{firstOutOfRange}
+use Rattle.sweep.specs.Outcomes.{Outcome}
 use Rattle.sweep.proofs.Reached.{both}
-use Rattle.sweep.proofs.Refusals.{Outcome, gives, measured}
+use Rattle.sweep.proofs.Refusals.{gives, measured}
 use borrow.Author.Needs.{needs}
 use Rattle.sweep.proofs.refusal_of.Statement.{statement}
 use Rattle.sweep.proofs.refusal_of.Tie as tie

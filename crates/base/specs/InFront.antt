@@ -1,0 +1,11 @@
+-- A lane with values written into its first places: nothing else of it is changed.
+use Prim.Native.Nat.{ℕ, _≤_, _<_}
+use mathlib.Core.Path.{_≡_}
+use mathlib.Core.List.{List}
+use lib.ListN.{length, getD}
+
+-- n values in the first n places, every place beyond as it was, and the lane as long as it was
+pub record InFront {ℓ} {A : Type ℓ} (values : List A) (n : ℕ) (before after : List A) : Type ℓ where
+  pub same-length : length after ≡ length before
+  pub there : (i : ℕ) (d : A) → i < n → getD after i d ≡ getD values i d
+  pub beyond : (i : ℕ) (d : A) → n ≤ i → getD after i d ≡ getD before i d

@@ -1,0 +1,3 @@
+-- The laws of the reading of the input.
+pub mod Settling
+pub mod Reading

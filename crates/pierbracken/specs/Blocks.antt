@@ -1,0 +1,42 @@
+-- Demands 1 and 2: the program reads a stream "in blocks .. and answers as the whole-stream call does": a stream cut anywhere is the stream.
+use Prim.Native.Nat.{ℕ, _≤_}
+use mathlib.Core.Path.{_≡_}
+use mathlib.Core.List.{List, _++_, flatten}
+use mathlib.Core.Logic.{_↔_}
+use lib.ListN.{length}
+use Rattle.item.proofs.Encoding.{Bytes}
+use Rattle.stream.specs.declared.Row.{Row}
+use Rattle.stream.specs.Reading.{readOf, laneAfter}
+use Rattle.blocks.specs.declared.Reader.{Reader}
+use Rattle.blocks.specs.Blocks.{started, readerAfter, laneWith, fedAll, laneAll}
+use Rattle.blocks.specs.Made.{fedOf, endOf}
+use Rattle.blocks.proofs.Reached.{Reached}
+use Rattle.blocks.proofs.Feeding as feeding
+use Rattle.blocks.proofs.Whole as whole
+use Rattle.blocks.proofs.Reached as reached
+
+-- `room` is the number of places of the shortest lane, `value` what a lane holds of a second.
+
+module _ (room : ℕ) (blocks : List (List ℕ)) where
+  -- fed block by block from the start, the end gives the answer of the whole-stream call
+  pub same-answer : endOf (fedAll room started blocks) ≡ readOf room (flatten blocks)
+  same-answer = whole.blocks-end room blocks
+
+  -- and the lanes of a readable stream are those of the whole-stream call
+  pub same-lane {ℓ} : {A : Type ℓ} (value : Row → A) (lane : List A) → room ≤ length lane → readOf room (flatten blocks) .refusal ≡ 0 → laneAll value room started blocks lane ≡ laneAfter value room (flatten blocks) lane
+  same-lane value lane = whole.blocks-lane room blocks value lane
+
+-- feeding a and then b is feeding both as one: the reader and the lanes
+pub reader-in-two : (room : ℕ) (r : Reader) (a b : List ℕ) → readerAfter room (readerAfter room r a) b ≡ readerAfter room r (a ++ b)
+reader-in-two room r a b = feeding.fed-in-two room r a b
+
+pub lane-in-two {ℓ} : {A : Type ℓ} (value : Row → A) (room : ℕ) (r : Reader) (a b : List ℕ) (lane : List A) → laneWith value room (readerAfter room r a) b (laneWith value room r a lane) ≡ laneWith value room r (a ++ b) lane
+lane-in-two = feeding.lane-in-two
+
+-- refusal 13, "never reach[ed]": given exactly for a reader to which no stream leads; it holds an array of 21 bytes
+module _ (r : Reader) (places : length (r .held) ≡ 21) (bytes : Bytes (r .held)) where
+  pub feed-refused : (room : ℕ) (block : List ℕ) → (fedOf room r block .refusal ≡ 13) ↔ (Reached r → ⊥)
+  feed-refused = reached.feed-refused r places bytes
+
+  pub end-refused : (endOf r .refusal ≡ 13) ↔ (Reached r → ⊥)
+  end-refused = reached.end-refused r places bytes

@@ -1,0 +1,10 @@
+-- The theorems about the whole, by the demand of the paper that they serve; each proof cites that of the crate below.
+pub mod Proved
+pub mod Determined
+pub mod RefusedExactlyWhen
+pub mod NothingElseWritten
+pub mod Windows
+pub mod Verdict
+pub mod Sums
+pub mod Blocks
+pub mod Examples

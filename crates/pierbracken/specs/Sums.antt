@@ -1,0 +1,26 @@
+-- Demand 2: "Those four add up over the bins to the trip's, their seconds to n less the missing."
+use Prim.Native.Nat.{ℕ, _+_, _≤_}
+use mathlib.Core.Path.{_≡_}
+use mathlib.Core.List.{List}
+use Rattle.base.specs.declared.Plan.{Plan}
+use Rattle.second.specs.Lanes.{Lanes}
+use Rattle.sweep.specs.Window.{windows}
+use Rattle.windows.specs.Counts.{countsOf, allWindows}
+use Rattle.windows.proofs.Counts as counts
+use Rattle.trip.specs.declared.Rooms.{Rooms}
+use Rattle.trip.specs.Trip.{evaluated, answerOf}
+use Rattle.trip.specs.Sums.{SumsUp}
+use Rattle.trip.proofs.Theorems as trip
+
+module _ (plan : Plan) (lanes : Lanes) where
+  -- seconds, distance, CO2 and NOx of the three bins are those of the trip
+  pub bins-add-up : SumsUp plan lanes
+  bins-add-up = trip.sums-up plan lanes
+
+  -- the seconds of an accepted trip: those of the bins, and the missing
+  pub seconds-add-up : (rooms : Rooms) → answerOf plan lanes rooms .refusal ≡ 0 → evaluated plan lanes .total .seconds + evaluated plan lanes .missing ≡ evaluated plan lanes .seconds
+  seconds-add-up rooms z = trip.seconds-less-missing plan lanes (trip.accepted-passed plan lanes rooms z)
+
+-- the windows of the three classes and the unclassed are all windows
+pub windows-add-up : (plan : Plan) (speeds co2 : List ℕ) → 1 ≤ plan .reference → allWindows (countsOf plan speeds co2) ≡ windows (plan .reference) co2
+windows-add-up = counts.classes-add-up

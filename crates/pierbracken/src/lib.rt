@@ -1,0 +1,63 @@
+// Pierbracken judges an emissions trip on the road: from a logger's stream of bytes to a verdict of
+// sixteen reasons. This page is the whole of it, by groups of calls; each call stands, with the
+// contract that it is proved to meet, in the crate that it is taken from. Every call takes all
+// inputs and ends; bad input is refused by a number and a place, and a refused call writes into no
+// lent lane. specs/ has the theorems about the whole, a file for each demand.
+
+// The release of the meaning of "valid" by which this build answers.
+pub use base::meaning::RELEASE;
+
+// The plan of a trip, and a refusal's number and place.
+pub use base::Fault;
+pub use base::Plan;
+
+// From concentration to mass: the CO2 of a second in mg, the NOx in µg.
+pub use mass::Reading;
+pub use mass::Setting;
+pub use mass::Weighed;
+pub use mass::co2_mass;
+pub use mass::nox_mass;
+
+// One item from the front of some bytes.
+pub use item::Front;
+pub use item::Item;
+pub use item::Values;
+pub use item::read_item;
+
+// A whole stream, read into five lent lanes.
+pub use stream::ReadAnswer;
+pub use stream::read_stream;
+
+// A stream that arrives in blocks, cut anywhere: a reader is fed block by block and asked at the end.
+pub use blocks::Fed;
+pub use blocks::Reader;
+pub use blocks::end;
+pub use blocks::feed;
+pub use blocks::start;
+
+// The sweep over the kept seconds, cut by a budget of moves and taken up again.
+pub use sweep::SweepState;
+pub use sweep::Swept;
+pub use sweep::sweep;
+
+// D of one second of a trip.
+pub use acceleration::Acceleration;
+pub use acceleration::d_of_second;
+
+// Q, the percentile of products in any order, ranked into a lent lane.
+pub use percentile::Answer;
+pub use percentile::percentile;
+
+// The whole trip: kept seconds, windows, bins, climb, and the verdict.
+pub use bins::Bin;
+pub use tally::Tally;
+pub use trip::Evaluated;
+pub use trip::evaluate;
+pub use windows::ClassCount;
+
+// The printed lines, written into a lent buffer.
+pub use report::ClassLine;
+pub use report::Judged;
+pub use report::LONGEST_TEXT;
+pub use report::report;
+pub use report::report_refusal;

@@ -1,0 +1,2 @@
+-- The definitions of what is printed.
+pub mod Printed

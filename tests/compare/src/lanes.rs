@@ -1,0 +1,114 @@
+//! The five lanes of a trip, for both sides.
+
+use oracle::second::{Second, TripLanes};
+use oracle::stream::StreamLanes;
+
+/// Each lane is of its own length.
+#[derive(Clone, Debug, Default, PartialEq, Eq)]
+pub struct Lanes {
+    pub states: Vec<u8>,
+    pub speeds: Vec<u16>,
+    pub altitudes: Vec<i32>,
+    pub co2: Vec<u32>,
+    pub nox: Vec<u32>,
+}
+
+impl Lanes {
+    pub fn of(seconds: &[Second]) -> Lanes {
+        Lanes {
+            states: seconds.iter().map(|s| s.state).collect(),
+            speeds: seconds.iter().map(|s| s.speed).collect(),
+            altitudes: seconds.iter().map(|s| s.altitude).collect(),
+            co2: seconds.iter().map(|s| s.co2).collect(),
+            nox: seconds.iter().map(|s| s.nox).collect(),
+        }
+    }
+
+    /// Lanes of these lengths, filled with values that no stream leaves there.
+    pub fn guarded(lengths: [usize; 5]) -> Lanes {
+        Lanes {
+            states: vec![0xa5; lengths[0]],
+            speeds: vec![0xa5a5; lengths[1]],
+            altitudes: vec![-0x5a5a_5a5b; lengths[2]],
+            co2: vec![0xa5a5_a5a5; lengths[3]],
+            nox: vec![0xa5a5_a5a5; lengths[4]],
+        }
+    }
+
+    /// Lent to the library to be written.
+    pub fn lent(&mut self) -> library::Lanes<'_> {
+        library::Lanes {
+            states: &mut self.states,
+            speeds: &mut self.speeds,
+            altitudes: &mut self.altitudes,
+            co2: &mut self.co2,
+            nox: &mut self.nox,
+        }
+    }
+
+    /// Handed to the library to be read.
+    pub fn trip(&self) -> library::Trip<'_> {
+        library::Trip {
+            states: &self.states,
+            speeds: &self.speeds,
+            altitudes: &self.altitudes,
+            co2: &self.co2,
+            nox: &self.nox,
+        }
+    }
+
+    /// Lent to the independent program.
+    pub fn lent_on_paper(&mut self) -> StreamLanes<'_> {
+        StreamLanes {
+            states: &mut self.states,
+            speeds: &mut self.speeds,
+            altitudes: &mut self.altitudes,
+            co2: &mut self.co2,
+            nox: &mut self.nox,
+        }
+    }
+
+    /// Handed to the independent program.
+    pub fn trip_on_paper(&self) -> TripLanes<'_> {
+        TripLanes {
+            states: &self.states,
+            speeds: &self.speeds,
+            altitudes: &self.altitudes,
+            co2: &self.co2,
+            nox: &self.nox,
+        }
+    }
+}
+
+/// A plan as the library takes it.
+pub fn plan_of(plan: &oracle::Plan) -> library::Plan {
+    library::Plan {
+        reference: plan.reference,
+        e1: plan.e1,
+        e2: plan.e2,
+        e3: plan.e3,
+        lower: plan.lower,
+        urban: plan.upper[0],
+        rural: plan.upper[1],
+        motorway: plan.upper[2],
+    }
+}
+
+/// What the paper answers for a whole stream, plan and seconds, as the library gives it.
+pub fn answer_by_paper(
+    read: Result<(oracle::Plan, usize), oracle::Refusal>,
+) -> library::ReadAnswer {
+    let zeros = library::ReadAnswer::default();
+    match read {
+        Ok((plan, seconds)) => library::ReadAnswer {
+            plan: plan_of(&plan),
+            seconds,
+            ..zeros
+        },
+        Err(refusal) => library::ReadAnswer {
+            refusal: refusal.number,
+            place: refusal.place,
+            ..zeros
+        },
+    }
+}
