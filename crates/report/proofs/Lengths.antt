@@ -7,9 +7,9 @@ use native.Mathlib.Omega.{arith}
 use lib.ListN.{length, length-append}
 use Rattle.report.specs.declared.Judged.{Judged}
 use Rattle.report.specs.declared.ClassLine.{ClassLine}
-use Rattle.report.specs.Text.{bytes, decimal, hex}
+use Rattle.text.specs.Text.{bytes, decimal, hex}
 use Rattle.report.specs.Lines.{named, line, classLine, countLines, classLines, reasonsLine, judgedText, refusalText, longestText}
-use Rattle.report.proofs.Decimal.{word-length}
+use Rattle.text.proofs.Decimal.{word-length}
 
 -- how many decimal digits a number has
 abbrev pub digits : ℕ → ℕ

@@ -1,6 +1,4 @@
 -- The laws of the printed lines.
-pub mod Digits
-pub mod Decimal
-pub mod Writing
+pub mod Fitting
 pub mod Lengths
 pub mod Theorems

@@ -9,10 +9,10 @@ use lib.ListN.{length}
 use Rattle.base.specs.InFront.{InFront}
 use Rattle.base.proofs.InFront.{in-front}
 use Rattle.report.specs.declared.Judged.{Judged}
-use Rattle.report.specs.Text.{bytes, digit, decimalUpTo, decimal, hex}
+use Rattle.text.specs.Text.{bytes, digit, decimalUpTo, decimal, hex}
 use Rattle.report.specs.Lines.{countLines, classLines, reasonsLine, judgedText, refusalText, lengthWritten, bufferWritten, longestText}
 use Rattle.report.proofs.Lengths.{Words, judged-length, refusal-length, judged-longest, refusal-longest}
-use Rattle.report.proofs.Writing.{fits-length, fits-buffer, short-buffer, zero-says-short}
+use Rattle.report.proofs.Fitting.{fits-length, fits-buffer, short-buffer, zero-says-short}
 
 -- the numbers of the printed case
 pub printedCase : Judged

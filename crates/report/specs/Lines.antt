@@ -7,7 +7,7 @@ use lib.ListN.{length, drop}
 use Rattle.base.specs.Words.{pick}
 use Rattle.report.specs.declared.ClassLine.{ClassLine}
 use Rattle.report.specs.declared.Judged.{Judged}
-use Rattle.report.specs.Text.{bytes, decimal, hex}
+use Rattle.text.specs.Text.{bytes, decimal, hex}
 
 -- a number behind its words
 abbrev pub named : String → ℕ → List ℕ

@@ -2,13 +2,12 @@
 // one line of a refusal. specs/Lines.antt says what is right, letter by letter.
 
 ghost use mathlib.Core.Path.{_≡_};
-ghost use mathlib.Core.List.{_++_};
-ghost use Prim.Native.Nat.{_+_, _*_, _<_, _≤_};
+ghost use Prim.Native.Nat.{_+_, _*_, _≤_};
 ghost use lib.Dec.{leb};
 ghost use lib.ListN.{length};
-ghost use Rattle.report.specs.Text.{bytes, digit, decimal, hex};
+ghost use Rattle.text.specs.Text.{decimal};
 ghost use Rattle.report.specs.Lines.{countLines, classLines, reasonsLine, judgedText, refusalText, lengthWritten, bufferWritten};
-ghost use Rattle.report.specs.Steps.{wordDigits, Wrote};
+ghost use Rattle.text.specs.Steps.{wordDigits, Wrote};
 
 // A class line: the windows of a class, and those of them that are inside.
 pub struct ClassLine {
@@ -50,8 +49,8 @@ pub fn report_refusal(number: u8, place: usize, buffer: &mut [u8]) -> usize
 {
     let number = number as u64;
     let place = place as u64;
-    if REFUSAL_WORDS + digit_count(number) + digit_count(place) <= buffer.len() {
-        put_line(buffer, 0, b"refused ", number, b" at ", place)
+    if REFUSAL_WORDS + text::digit_count(number) + text::digit_count(place) <= buffer.len() {
+        text::put_line(buffer, 0, b"refused ", number, b" at ", place)
     } else {
         0
     }
@@ -62,15 +61,6 @@ const JUDGED_WORDS: usize = 80;
 
 // The bytes of a refusal's line besides its decimal digits.
 const REFUSAL_WORDS: usize = 13;
-
-// The bases of the digits, and what the upper places of a hex text count.
-const TEN: u64 = 10;
-
-const SIXTEEN: u64 = 16;
-
-const SIXTEEN_SQUARED: u64 = 256;
-
-const SIXTEEN_CUBED: u64 = 4_096;
 
 // Whether the six lines fit a buffer of that length. Only a short one has the digits counted.
 fn judged_fits(trip: Judged, room: usize) -> bool
@@ -90,11 +80,11 @@ fn judged_length(trip: Judged) -> usize
     let rural = trip.rural;
     let motorway = trip.motorway;
     JUDGED_WORDS
-        + digit_count(trip.seconds)
-        + digit_count(trip.missing)
-        + digit_count(trip.kept)
-        + digit_count(trip.windows)
-        + digit_count(trip.moves)
+        + text::digit_count(trip.seconds)
+        + text::digit_count(trip.missing)
+        + text::digit_count(trip.kept)
+        + text::digit_count(trip.windows)
+        + text::digit_count(trip.moves)
         + class_digits(urban)
         + class_digits(rural)
         + class_digits(motorway)
@@ -104,20 +94,7 @@ fn judged_length(trip: Judged) -> usize
 fn class_digits(class: ClassLine) -> usize
     ensures { λ r. ⌜ (r ≡ length (decimal (class .windows)) + length (decimal (class .inside))) × (r ≤ 2 * wordDigits) ⌝ }
 {
-    digit_count(class.windows) + digit_count(class.inside)
-}
-
-// How many decimal digits a number has.
-fn digit_count(n: u64) -> usize
-    ensures { λ r. ⌜ (r ≡ length (decimal n)) × (r ≤ wordDigits) ⌝ }
-{
-    let mut count: usize = 1;
-    let mut rest = n;
-    while TEN <= rest {
-        count += 1;
-        rest /= TEN;
-    }
-    count
+    text::digit_count(class.windows) + text::digit_count(class.inside)
 }
 
 // Each step below writes its text from place `at` on and answers the place behind it. The caller
@@ -144,9 +121,9 @@ fn put_count_lines(buffer: &mut [u8], at: usize, trip: Judged) -> usize
     let kept = trip.kept;
     let windows = trip.windows;
     let moves = trip.moves;
-    let at = put_named(buffer, at, b"seconds ", seconds);
-    let at = put_line(buffer, at, b" missing ", missing, b" kept ", kept);
-    put_line(buffer, at, b"windows ", windows, b" moves ", moves)
+    let at = text::put_named(buffer, at, b"seconds ", seconds);
+    let at = text::put_line(buffer, at, b" missing ", missing, b" kept ", kept);
+    text::put_line(buffer, at, b"windows ", windows, b" moves ", moves)
 }
 
 // The class lines.
@@ -157,9 +134,9 @@ fn put_class_lines(buffer: &mut [u8], at: usize, trip: Judged) -> usize
     let urban = trip.urban;
     let rural = trip.rural;
     let motorway = trip.motorway;
-    let at = put_line(buffer, at, b"urban ", urban.windows, b" ", urban.inside);
-    let at = put_line(buffer, at, b"rural ", rural.windows, b" ", rural.inside);
-    put_line(
+    let at = text::put_line(buffer, at, b"urban ", urban.windows, b" ", urban.inside);
+    let at = text::put_line(buffer, at, b"rural ", rural.windows, b" ", rural.inside);
+    text::put_line(
         buffer,
         at,
         b"motorway ",
@@ -174,87 +151,7 @@ fn put_reasons_line(buffer: &mut [u8], at: usize, reasons: u16) -> usize
     requires { ⌜ at + length (reasonsLine reasons) ≤ length (now buffer) ⌝ }
     ensures { λ r. ⌜ Wrote (now (buffer .entry)) at (reasonsLine reasons) (now (buffer .exit)) r ⌝ }
 {
-    let digits = put_words(buffer, at, b"reasons ");
-    let end = put_hex(buffer, digits, reasons);
-    put_words(buffer, end, b"\n")
-}
-
-// Two numbers, each behind its words, and the line end.
-fn put_line(buffer: &mut [u8], at: usize, first: &[u8], a: u64, second: &[u8], b: u64) -> usize
-    requires { ⌜ at + length (now first ++ decimal a ++ (now second ++ decimal b) ++ bytes "\n") ≤ length (now buffer) ⌝ }
-    ensures { λ r. ⌜ Wrote (now (buffer .entry)) at (now (first .entry) ++ decimal a ++ (now (second .entry) ++ decimal b) ++ bytes "\n") (now (buffer .exit)) r ⌝ }
-{
-    let at = put_named(buffer, at, first, a);
-    let at = put_named(buffer, at, second, b);
-    put_words(buffer, at, b"\n")
-}
-
-// Words and the number behind them.
-fn put_named(buffer: &mut [u8], at: usize, words: &[u8], n: u64) -> usize
-    requires { ⌜ at + length (now words ++ decimal n) ≤ length (now buffer) ⌝ }
-    ensures { λ r. ⌜ Wrote (now (buffer .entry)) at (now (words .entry) ++ decimal n) (now (buffer .exit)) r ⌝ }
-{
-    let at = put_words(buffer, at, words);
-    put_number(buffer, at, n)
-}
-
-// Words, byte by byte.
-fn put_words(buffer: &mut [u8], at: usize, words: &[u8]) -> usize
-    requires { ⌜ at + length (now words) ≤ length (now buffer) ⌝ }
-    ensures { λ r. ⌜ Wrote (now (buffer .entry)) at (now (words .entry)) (now (buffer .exit)) r ⌝ }
-{
-    let mut i = 0;
-    let mut next = at;
-    while i < words.len() {
-        buffer[next] = words[i];
-        next += 1;
-        i += 1;
-    }
-    next
-}
-
-// A number in decimal, from its last digit to its first.
-fn put_number(buffer: &mut [u8], at: usize, n: u64) -> usize
-    requires { ⌜ at + length (decimal n) ≤ length (now buffer) ⌝ }
-    ensures { λ r. ⌜ Wrote (now (buffer .entry)) at (decimal n) (now (buffer .exit)) r ⌝ }
-{
-    let next = at + digit_count(n);
-    let mut i = next;
-    let mut rest = n;
-    while TEN <= rest {
-        let last = digit_of(rest % TEN);
-        i -= 1;
-        buffer[i] = last;
-        rest /= TEN;
-    }
-    buffer[at] = digit_of(rest);
-    next
-}
-
-// Four hex digits.
-fn put_hex(buffer: &mut [u8], at: usize, n: u16) -> usize
-    requires { ⌜ at + length (hex n) ≤ length (now buffer) ⌝ }
-    ensures { λ r. ⌜ Wrote (now (buffer .entry)) at (hex n) (now (buffer .exit)) r ⌝ }
-{
-    let wide = n as u64;
-    let first = digit_of(wide / SIXTEEN_CUBED % SIXTEEN);
-    let second = digit_of(wide / SIXTEEN_SQUARED % SIXTEEN);
-    let third = digit_of(wide / SIXTEEN % SIXTEEN);
-    let fourth = digit_of(wide % SIXTEEN);
-    buffer[at] = first;
-    buffer[at + 1] = second;
-    buffer[at + 2] = third;
-    buffer[at + 3] = fourth;
-    at + 4
-}
-
-// The digit of a number below 16.
-fn digit_of(n: u64) -> u8
-    requires { ⌜ n < 16 ⌝ }
-    ensures { λ r. ⌜ r ≡ digit n ⌝ }
-{
-    if n < TEN {
-        return b'0' + n as u8;
-    }
-    b'a' + (n - TEN) as u8
+    let digits = text::put_words(buffer, at, b"reasons ");
+    let end = text::put_hex(buffer, digits, reasons);
+    text::put_words(buffer, end, b"\n")
 }

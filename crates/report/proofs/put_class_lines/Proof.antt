@@ -4,7 +4,7 @@ use mathlib.Core.Path.{refl}
 use mathlib.Core.List.{List}
 use Rattle.report.specs.declared.Judged.{Judged}
 use Rattle.report.specs.Lines.{classLine, classLines}
-use Rattle.report.proofs.Writing.{both-wrote, room-one, room-two, room-three, wrote-same-length}
+use Rattle.text.proofs.Writing.{both-wrote, room-one, room-two, room-three, wrote-same-length}
 use Rattle.report.proofs.put_class_lines.Statement.{statement}
 use Rattle.report.proofs.put_class_lines.Tie as tie
 

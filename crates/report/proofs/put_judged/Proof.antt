@@ -1,6 +1,6 @@
 -- `report::put_judged` meets its contract: the lines of counts, of classes and of reasons, one behind the other. Assumes nothing.
 use Rattle.report.specs.Lines.{countLines, classLines, reasonsLine, judgedText}
-use Rattle.report.proofs.Writing.{both-wrote, room-one, room-two, room-three, wrote-same-length}
+use Rattle.text.proofs.Writing.{both-wrote, room-one, room-two, room-three, wrote-same-length}
 use Rattle.report.proofs.put_judged.Statement.{statement}
 use Rattle.report.proofs.put_judged.Tie as tie
 

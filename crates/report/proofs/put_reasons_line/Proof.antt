@@ -1,8 +1,8 @@
 -- `report::put_reasons_line` meets its contract: the words, four hex digits and the line end, one behind the other. Assumes nothing.
 use mathlib.Core.Path.{refl}
-use Rattle.report.specs.Text.{bytes, hex}
+use Rattle.text.specs.Text.{bytes, hex}
 use Rattle.report.specs.Lines.{reasonsLine}
-use Rattle.report.proofs.Writing.{both-wrote, room-one, room-two, room-three, wrote-same-length}
+use Rattle.text.proofs.Writing.{both-wrote, room-one, room-two, room-three, wrote-same-length}
 use Rattle.report.proofs.put_reasons_line.Statement.{statement}
 use Rattle.report.proofs.put_reasons_line.Tie as tie
 

@@ -6,7 +6,8 @@ use lib.ListN.{length}
 use borrow.Author.Needs.{needs}
 use borrow.Author.Tests.{leb-true, leb-false}
 use Rattle.report.specs.Lines.{judgedText}
-use Rattle.report.proofs.Writing.{wrote-length, wrote-buffer, wrote-same-length, short-length, short-buffer}
+use Rattle.text.proofs.Writing.{wrote-same-length}
+use Rattle.report.proofs.Fitting.{wrote-length, wrote-buffer, short-length, short-buffer}
 use Rattle.report.proofs.report.Statement.{statement}
 use Rattle.report.proofs.report.Tie as tie
 

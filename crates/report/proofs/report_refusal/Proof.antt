@@ -5,9 +5,10 @@ use native.Mathlib.Omega.{arith}
 use lib.ListN.{length}
 use borrow.Author.Needs.{needs}
 use Rattle.report.specs.Lines.{refusalText}
-use Rattle.report.specs.Steps.{Wrote}
+use Rattle.text.specs.Steps.{Wrote}
 use Rattle.report.proofs.Lengths.{refusal-length}
-use Rattle.report.proofs.Writing.{wrote-length, wrote-buffer, wrote-same-length, short-length, short-buffer}
+use Rattle.text.proofs.Writing.{wrote-same-length}
+use Rattle.report.proofs.Fitting.{wrote-length, wrote-buffer, short-length, short-buffer}
 use Rattle.report.proofs.report_refusal.Statement.{statement}
 use Rattle.report.proofs.report_refusal.Tie as tie
 

@@ -9,9 +9,9 @@ use lib.Dec.{ltb}
 use lib.ListN.{length, length-append}
 use borrow.Author.Tests.{lt-ltb, le-ltb, ltb-true, ltb-false}
 use Rattle.base.specs.Words.{pick}
-use Rattle.report.specs.Text.{digit, decimalUpTo, decimal}
-use Rattle.report.specs.Steps.{wordDigits}
-use Rattle.report.proofs.Digits.{digit-back, readOn, read, read-more}
+use Rattle.text.specs.Text.{digit, decimalUpTo, decimal}
+use Rattle.text.specs.Steps.{wordDigits}
+use Rattle.text.proofs.Digits.{digit-back, readOn, read, read-more}
 
 -- any bound that is at least the number gives the same digits
 enough : (j k n : ℕ) → n ≤ j → n ≤ k → decimalUpTo j n ≡ decimalUpTo k n

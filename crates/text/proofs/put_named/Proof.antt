@@ -1,9 +1,9 @@
--- `report::put_named` meets its contract: words and then a number are both, one behind the other. Assumes nothing.
+-- `text::put_named` meets its contract: words and then a number are both, one behind the other. Assumes nothing.
 use lib.ListN.{length}
-use Rattle.report.specs.Text.{decimal}
-use Rattle.report.proofs.Writing.{both-wrote, room-first, room-next, wrote-same-length}
-use Rattle.report.proofs.put_named.Statement.{statement}
-use Rattle.report.proofs.put_named.Tie as tie
+use Rattle.text.specs.Text.{decimal}
+use Rattle.text.proofs.Writing.{both-wrote, room-first, room-next, wrote-same-length}
+use Rattle.text.proofs.put_named.Statement.{statement}
+use Rattle.text.proofs.put_named.Tie as tie
 
 returns : tie.Need-returns
 returns c = both-wrote (c .before .before .before .before .before .before .put-words .ensures) (c .before .before .put-number .ensures)

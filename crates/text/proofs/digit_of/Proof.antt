@@ -1,8 +1,8 @@
--- `report::digit_of` meets its contract: below ten a digit, from ten on a letter. Assumes nothing.
+-- `text::digit_of` meets its contract: below ten a digit, from ten on a letter. Assumes nothing.
 use native.Mathlib.Omega.{arith}
-use Rattle.report.proofs.Digits.{digit-low, digit-high}
-use Rattle.report.proofs.digit_of.Statement.{statement}
-use Rattle.report.proofs.digit_of.Tie as tie
+use Rattle.text.proofs.Digits.{digit-low, digit-high}
+use Rattle.text.proofs.digit_of.Statement.{statement}
+use Rattle.text.proofs.digit_of.Tie as tie
 
 cast-result : tie.Need-cast-result
 cast-result c = omega arith

@@ -1,18 +1,13 @@
--- Laws of writing: texts written one behind the other are their joined text, and a text that fits is written at the front. Assumes nothing.
+-- Laws of writing: texts written one behind the other are their joined text. Assumes nothing.
 use Prim.Native.Nat.{ℕ, suc, _+_, _<_, _≤_}
 use mathlib.Core.Path.{_≡_, refl, sym, _∙_, ap}
-use mathlib.Core.Bool.{Bool, true, false}
 use mathlib.Core.List.{List, [], _∷_, _++_}
-use native.Mathlib.Nat.{add-zero, zero-add}
+use native.Mathlib.Nat.{add-zero}
 use native.Mathlib.Numerals.{add-one}
 use native.Mathlib.Omega.{arith}
-use lib.Dec.{leb}
 use lib.ListN.{length, getD, drop, set, length-append, drop-of-length-le}
-use lib.Seq.{sets, sets-eq, length-sets, set-comm, drop-cons}
-use borrow.Author.Tests.{le-leb, lt-leb, leb-true, leb-false}
-use Rattle.base.specs.Words.{pick}
-use Rattle.report.specs.Lines.{lengthWritten, bufferWritten}
-use Rattle.report.specs.Steps.{Wrote}
+use lib.Seq.{sets, length-sets, set-comm, drop-cons}
+use Rattle.text.specs.Steps.{Wrote}
 
 -- two texts stored one behind the other are their joined text stored
 pub sets-append : (xs ys l : List ℕ) (i : ℕ) → sets l i (xs ++ ys) ≡ sets (sets l i xs) (i + length xs) ys
@@ -74,47 +69,3 @@ module _ (x y z b : List ℕ) (i : ℕ) (room : i + length (x ++ y ++ z) ≤ len
 -- the buffer keeps its length
 pub wrote-same-length : {b x c : List ℕ} {i j : ℕ} → Wrote b i x c j → length c ≡ length b
 wrote-same-length {b} {x} {c} {i} w = ap length (w .stored) ∙ length-sets b i x
-
--- a text that fits, written at the front
-pub fits-length : (text b : List ℕ) → length text ≤ length b → lengthWritten text b ≡ length text
-unfolding lengthWritten
-fits-length text b h = rw (le-leb (length text) (length b) h) refl
-
-pub fits-buffer : (text b : List ℕ) → length text ≤ length b → bufferWritten text b ≡ text ++ drop (length text) b
-unfolding bufferWritten
-fits-buffer text b h = rw (le-leb (length text) (length b) h) refl
-
--- a text that does not
-pub short-length : (text b : List ℕ) → length b < length text → lengthWritten text b ≡ 0
-unfolding lengthWritten
-short-length text b h = rw (lt-leb (length text) (length b) h) refl
-
-pub short-buffer : (text b : List ℕ) → length b < length text → bufferWritten text b ≡ b
-unfolding bufferWritten
-short-buffer text b h = rw (lt-leb (length text) (length b) h) refl
-
--- what the steps wrote from place 0 on is what the definition says
-pub wrote-length : {b text c : List ℕ} {r : ℕ} → Wrote b 0 text c r → length text ≤ length b → r ≡ lengthWritten text b
-wrote-length {b} {text} w h = omega (arith, w .behind, fits-length text b h)
-
-pub wrote-buffer : {b text c : List ℕ} {r : ℕ} → Wrote b 0 text c r → length text ≤ length b → c ≡ bufferWritten text b
-wrote-buffer {b} {text} w h =
-    w .stored ∙ sets-eq text b 0 (omega arith) ∙ rw (zero-add (length text), fits-buffer text b h) refl
-
--- never more than the buffer holds
-pub written-within : (text b : List ℕ) → lengthWritten text b ≤ length b
-unfolding lengthWritten
-written-within text b = go (leb (length text) (length b)) refl
-  where
-    go : (t : Bool) → leb (length text) (length b) ≡ t → pick t (length text) 0 ≤ length b
-    go true q = leb-true (length text) (length b) q
-    go false q = omega arith
-
--- no bytes written says that a text does not fit, unless it is empty
-pub zero-says-short : (text b : List ℕ) → 0 < length text → lengthWritten text b ≡ 0 → length b < length text
-unfolding lengthWritten
-zero-says-short text b some none = go (leb (length text) (length b)) refl none
-  where
-    go : (t : Bool) → leb (length text) (length b) ≡ t → pick t (length text) 0 ≡ 0 → length b < length text
-    go true q e = absurd (omega arith)
-    go false q e = leb-false (length text) (length b) q

@@ -1,10 +1,10 @@
--- `report::put_line` meets its contract: two named numbers and the line end, one behind the other. Assumes nothing.
+-- `text::put_line` meets its contract: two named numbers and the line end, one behind the other. Assumes nothing.
 use mathlib.Core.Path.{refl}
 use mathlib.Core.List.{_++_}
-use Rattle.report.specs.Text.{bytes, decimal}
-use Rattle.report.proofs.Writing.{both-wrote, room-one, room-two, room-three, wrote-same-length}
-use Rattle.report.proofs.put_line.Statement.{statement}
-use Rattle.report.proofs.put_line.Tie as tie
+use Rattle.text.specs.Text.{bytes, decimal}
+use Rattle.text.proofs.Writing.{both-wrote, room-one, room-two, room-three, wrote-same-length}
+use Rattle.text.proofs.put_line.Statement.{statement}
+use Rattle.text.proofs.put_line.Tie as tie
 
 returns : tie.Need-returns
 returns c = both-wrote (both-wrote (c .before .before .before .before .before .before .before .before .before .before .before .put-named .ensures) (c .before .before .before .before .before .before .before .put-named2 .ensures)) (c .before .before .put-words .ensures)

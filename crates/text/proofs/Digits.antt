@@ -9,7 +9,7 @@ use native.Mathlib.Omega.{arith}
 use lib.Dec.{ltb, eqb}
 use borrow.Author.Tests.{lt-ltb, le-ltb, eqb-true, eqb-false}
 use Rattle.base.specs.Words.{pick}
-use Rattle.report.specs.Text.{digit, hex}
+use Rattle.text.specs.Text.{digit, hex}
 
 -- a test passes at each number below n
 abbrev everyBelow : (ℕ → Bool) → ℕ → Bool

@@ -1,11 +1,11 @@
--- `report::put_hex` meets its contract: the four digits are stored at their places. Assumes nothing.
+-- `text::put_hex` meets its contract: the four digits are stored at their places. Assumes nothing.
 use native.Mathlib.Omega.{arith}
 use lib.ListN.{length-set}
 use borrow.Author.Needs.{needs}
-use Rattle.report.specs.Text.{hex}
-use Rattle.report.proofs.Writing.{sets-four}
-use Rattle.report.proofs.put_hex.Statement.{statement}
-use Rattle.report.proofs.put_hex.Tie as tie
+use Rattle.text.specs.Text.{hex}
+use Rattle.text.proofs.Writing.{sets-four}
+use Rattle.text.proofs.put_hex.Statement.{statement}
+use Rattle.text.proofs.put_hex.Tie as tie
 
 digit-of-requires : tie.Need-digit-of-requires
 digit-of-requires c κs = search needs

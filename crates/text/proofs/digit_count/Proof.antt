@@ -1,12 +1,12 @@
--- `report::digit_count` meets its contract: the digits counted and those of the rest are one more than the number's. Assumes nothing.
+-- `text::digit_count` meets its contract: the digits counted and those of the rest are one more than the number's. Assumes nothing.
 use Prim.Native.Nat.{_+_}
 use mathlib.Core.Path.{_≡_}
 use native.Mathlib.Omega.{arith}
 use lib.ListN.{length}
-use Rattle.report.specs.Text.{decimal}
-use Rattle.report.proofs.Decimal.{length-one, length-more, length-some, word-length}
-use Rattle.report.proofs.digit_count.Statement.{statement}
-use Rattle.report.proofs.digit_count.Tie as tie
+use Rattle.text.specs.Text.{decimal}
+use Rattle.text.proofs.Decimal.{length-one, length-more, length-some, word-length}
+use Rattle.text.proofs.digit_count.Statement.{statement}
+use Rattle.text.proofs.digit_count.Tie as tie
 
 abbrev Inv-loop : tie.InvT-loop
 Inv-loop n count₀ rest₀ count rest = length (decimal n) + 1 ≡ count + length (decimal rest)

@@ -1,4 +1,4 @@
--- `report::put_number` meets its contract: the digits of the rest are still to be stored from the front, and the last of them may be stored first.
+-- `text::put_number` meets its contract: the digits of the rest are still to be stored from the front, and the last of them may be stored first.
 -- Assumes nothing.
 use Prim.Native.Nat.{ℕ, _+_, _-_, _/_, _%_, _<_, _≤_}
 use mathlib.Core.Path.{_≡_, refl, sym, _∙_, ap}
@@ -8,11 +8,11 @@ use native.Mathlib.Omega.{arith}
 use lib.ListN.{length, set, length-set}
 use lib.Seq.{sets}
 use borrow.Author.Needs.{needs}
-use Rattle.report.specs.Text.{digit, decimal}
-use Rattle.report.proofs.Decimal.{decimal-one, decimal-more, length-one, length-more}
-use Rattle.report.proofs.Writing.{sets-append, sets-past}
-use Rattle.report.proofs.put_number.Statement.{statement}
-use Rattle.report.proofs.put_number.Tie as tie
+use Rattle.text.specs.Text.{digit, decimal}
+use Rattle.text.proofs.Decimal.{decimal-one, decimal-more, length-one, length-more}
+use Rattle.text.proofs.Writing.{sets-append, sets-past}
+use Rattle.text.proofs.put_number.Statement.{statement}
+use Rattle.text.proofs.put_number.Tie as tie
 
 abbrev Inv-loop : tie.InvT-loop
 Inv-loop buffer₀ at n next i₀ rest₀ buffer i rest = (i ≡ at + length (decimal rest)) × (i ≤ next) × (length buffer ≡ length buffer₀) × (sets buffer₀ at (decimal n) ≡ sets buffer at (decimal rest))

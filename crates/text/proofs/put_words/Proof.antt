@@ -1,12 +1,12 @@
--- `report::put_words` meets its contract: what is left of the words is still to be stored from the next place on. Assumes nothing.
+-- `text::put_words` meets its contract: what is left of the words is still to be stored from the next place on. Assumes nothing.
 use Prim.Native.Nat.{_+_, _-_, _≤_}
 use mathlib.Core.Path.{_≡_, refl, sym, _∙_}
 use native.Mathlib.Omega.{arith}
 use lib.ListN.{length, drop, length-set}
 use lib.Seq.{sets}
-use Rattle.report.proofs.Writing.{sets-step, sets-end}
-use Rattle.report.proofs.put_words.Statement.{statement}
-use Rattle.report.proofs.put_words.Tie as tie
+use Rattle.text.proofs.Writing.{sets-step, sets-end}
+use Rattle.text.proofs.put_words.Statement.{statement}
+use Rattle.text.proofs.put_words.Tie as tie
 
 abbrev Inv-loop : tie.InvT-loop
 Inv-loop buffer₀ at words i₀ next₀ buffer i next = (i ≤ length words) × (next ≡ at + i) × (length buffer ≡ length buffer₀) × (sets buffer₀ at words ≡ sets buffer next (drop i words))
