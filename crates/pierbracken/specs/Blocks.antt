@@ -33,7 +33,7 @@ reader-in-two room r a b = feeding.fed-in-two room r a b
 pub lane-in-two {ℓ} : {A : Type ℓ} (value : Row → A) (room : ℕ) (r : Reader) (a b : List ℕ) (lane : List A) → laneWith value room (readerAfter room r a) b (laneWith value room r a lane) ≡ laneWith value room r (a ++ b) lane
 lane-in-two = feeding.lane-in-two
 
--- refusal 13, "never reach[ed]": given exactly for a reader to which no stream leads; it holds an array of 21 bytes
+-- refusal 13 is given exactly for a reader to which no stream leads; a reader holds an array of 21 bytes
 module _ (r : Reader) (places : length (r .held) ≡ 21) (bytes : Bytes (r .held)) where
   pub feed-refused : (room : ℕ) (block : List ℕ) → (fedOf room r block .refusal ≡ 13) ↔ (Reached r → ⊥)
   feed-refused = reached.feed-refused r places bytes
