@@ -5,9 +5,9 @@ use mathlib.Core.Bool.{Bool, true, false}
 use mathlib.Core.List.{List, [], _∷_, _++_}
 use native.Mathlib.Numerals.{add-one}
 use native.Mathlib.Omega.{arith}
-use lib.ListN.{length, drop, set, length-append, length-set}
+use lib.ListN.{length, set, length-append, length-set}
 use Rattle.base.proofs.Store.{store-next}
-use Rattle.base.specs.Words.{pick, sum}
+use Rattle.base.specs.Words.{pick, sum, withFront}
 use Rattle.base.proofs.Choice.{both-ways}
 use Rattle.base.proofs.Seconds.{after-none, after-more}
 use Rattle.base.proofs.Sums.{sum-append}
@@ -66,7 +66,7 @@ module _ (bin : ℕ) (states speeds : List ℕ) where
     pub counted : count ≡ length (productsAfter bin states speeds i)
     pub added : total ≡ sum (productsAfter bin states speeds i)
     pub small : total ≤ 2 ^ 32 * i
-    pub stored : lane ≡ productsAfter bin states speeds i ++ drop (length (productsAfter bin states speeds i)) lane₀
+    pub stored : lane ≡ withFront (productsAfter bin states speeds i) lane₀
     pub long : length lane ≡ length lane₀
 
   pub written-none : (lane₀ : List ℕ) → Written lane₀ 0 lane₀ 0 0
@@ -135,5 +135,5 @@ module _ (bin : ℕ) (states speeds : List ℕ) where
     unfolding figuresOf
     all-counted = rw (w .counted, w .added, all) refl
 
-    pub all-stored : lane ≡ productsAfter bin states speeds (length states) ++ drop (length (productsAfter bin states speeds (length states))) lane₀
+    pub all-stored : lane ≡ withFront (productsAfter bin states speeds (length states)) lane₀
     all-stored = rw (sym all) (w .stored)

@@ -1,9 +1,9 @@
 // D of a second, and the products of the seconds that count in a bin (Appendix 7a).
 
 ghost use mathlib.Core.Path.{_≡_};
-ghost use mathlib.Core.List.{_++_};
 ghost use Prim.Native.Nat.{_<_, _≤_};
-ghost use lib.ListN.{length, drop};
+ghost use lib.ListN.{length};
+ghost use Rattle.base.specs.Words.{withFront};
 ghost use Rattle.second.specs.Lanes.{lanesOf};
 ghost use Rattle.acceleration.specs.D.{speedBefore, speedAfter, hasBefore, hasAfter, hasD, numbered, dOf, faultOf, accelerationOf};
 ghost use Rattle.acceleration.specs.Products.{SpeedLanes, productCode, productsOf, figuresOf};
@@ -60,34 +60,19 @@ fn fault_of(
     ensures { λ r. ⌜ r ≡ faultOf (lanesOf (now (states .entry)) (now (speeds .entry)) (now (altitudes .entry)) (now (co2 .entry)) (now (nox .entry))) i ⌝ }
 {
     if !second::lanes_agree(states, speeds, altitudes, co2, nox) {
-        return Fault {
-            number: base::refusal::LANES_DIFFER,
-            place: 0,
-        };
+        return base::fault_at(base::refusal::LANES_DIFFER, 0);
     }
     if base::too_many(states.len()) {
-        return Fault {
-            number: base::refusal::TOO_MANY,
-            place: 0,
-        };
+        return base::fault_at(base::refusal::TOO_MANY, 0);
     }
     let bad = second::first_bad(states, speeds, altitudes, co2, nox);
     if bad < states.len() {
-        return Fault {
-            number: base::refusal::OUT_OF_RANGE,
-            place: bad,
-        };
+        return base::fault_at(base::refusal::OUT_OF_RANGE, bad);
     }
     if second::none_has_values(states) | (states.len() <= i) {
-        return Fault {
-            number: base::refusal::NO_SECOND,
-            place: 0,
-        };
+        return base::fault_at(base::refusal::NO_SECOND, 0);
     }
-    Fault {
-        number: base::refusal::ACCEPTED,
-        place: 0,
-    }
+    base::fault_at(base::refusal::ACCEPTED, 0)
 }
 
 // Whether second i has D: neither it nor one beside it is missing.
@@ -160,7 +145,7 @@ pub fn write_products(states: &[u8], speeds: &[u16], bin: usize, lane: &mut [u32
     requires { ⌜ SpeedLanes (now states) (now speeds) ⌝ }
     requires { ⌜ length (productsOf bin (now states) (now speeds)) ≤ length (now lane) ⌝ }
     ensures { λ r. ⌜ r ≡ figuresOf (productsOf bin (now (states .entry)) (now (speeds .entry))) ⌝ }
-    ensures { λ r. ⌜ now (lane .exit) ≡ productsOf bin (now (states .entry)) (now (speeds .entry)) ++ drop (length (productsOf bin (now (states .entry)) (now (speeds .entry)))) (now (lane .entry)) ⌝ }
+    ensures { λ r. ⌜ now (lane .exit) ≡ withFront (productsOf bin (now (states .entry)) (now (speeds .entry))) (now (lane .entry)) ⌝ }
 {
     let mut count = 0;
     let mut total: u64 = 0;

@@ -1,5 +1,5 @@
 -- Bounds of products of two variables, which `omega` takes as unknowns. Assumes nothing.
-use Prim.Native.Nat.{ℕ, _*_, _≤_, _<_}
+use Prim.Native.Nat.{ℕ, _*_, _≤_}
 use native.Mathlib.Nat.{mul-le-mul, le-trans}
 use lib.Dec.{T, leb, leb→le}
 

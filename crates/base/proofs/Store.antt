@@ -2,10 +2,11 @@
 use Prim.Native.Nat.{ℕ, suc, _+_, _≤_, _<_}
 use mathlib.Core.Path.{_≡_, refl, _∙_}
 use mathlib.Core.List.{List, [], _∷_, _++_, append-assoc}
+use native.Mathlib.Nat.{add-zero}
 use native.Mathlib.Numerals.{add-one}
 use native.Mathlib.Omega.{arith}
 use lib.ListN.{length, take, drop, getD, set}
-use lib.Seq.{drop-cons, set-at, take-suc, length-take-le, take-all}
+use lib.Seq.{sets, drop-cons, set-at, take-suc, length-take-le, take-all}
 
 -- one value more in front
 pub store-next : (front lane : List ℕ) (k x : ℕ) → length front ≡ k → k < length lane → set (front ++ drop k lane) k x ≡ (front ++ (x ∷ [])) ++ drop (k + 1) lane
@@ -20,3 +21,10 @@ copy-next values lane i h room =
 -- all of them
 pub copied : (values lane : List ℕ) (i : ℕ) → i ≡ length values → take i values ++ drop i lane ≡ values ++ drop (length values) lane
 copied values lane i end = rw (end, take-all (length values) values (omega arith)) refl
+
+-- values stored one run behind the other are stored as one
+pub sets-append {ℓ} : {A : Type ℓ} (lane : List A) (i : ℕ) (first second : List A) → sets (sets lane i first) (i + length first) second ≡ sets lane i (first ++ second)
+sets-append lane i [] second = rw add-zero
+sets-append lane i (v ∷ first) second =
+    let moved : i + suc (length first) ≡ suc i + length first = omega arith in
+    rw moved (sets-append (set lane i v) (suc i) first second)

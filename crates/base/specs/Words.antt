@@ -1,8 +1,8 @@
 -- The words that the definitions of every crate use.
 use Prim.Native.Nat.{ℕ, zero, suc, _+_}
 use mathlib.Core.Bool.{Bool, true, false}
-use mathlib.Core.List.{List, [], _∷_}
-use lib.ListN.{take}
+use mathlib.Core.List.{List, [], _∷_, _++_}
+use lib.ListN.{length, take, drop}
 
 -- choice by a test: the first where it holds, the second where it does not
 abbrev pub pick {ℓ} : {A : Type ℓ} → Bool → A → A → A
@@ -22,6 +22,10 @@ sum (x ∷ xs) = x + sum xs
 -- the sum of the first i numbers of a list
 abbrev pub sumFirst : ℕ → List ℕ → ℕ
 sumFirst i xs = sum (take i xs)
+
+-- a lane with values in its first places, the rest as it was
+abbrev pub withFront {ℓ} : {A : Type ℓ} → List A → List A → List A
+withFront values lane = values ++ drop (length values) lane
 
 -- the first index below n that is not good, and n where each is
 unfoldable pub firstBad : (ℕ → Bool) → ℕ → ℕ

@@ -1,10 +1,11 @@
 // The ground floor: the numbers that the paper names, the plan of a trip, and the tests of their
-// ranges. A number stands once for the code (limits, refusal, state) and once for the definitions
+// ranges. A number stands once for the code (limits, refusal, road, state) and once for the definitions
 // (specs/); the proofs of the tests below hold the two together.
 
 pub mod limits;
 pub mod meaning;
 pub mod refusal;
+pub mod road;
 pub mod state;
 
 ghost use mathlib.Core.Path.{_≡_};
@@ -12,12 +13,23 @@ ghost use Prim.Native.Nat.{_<_};
 ghost use lib.IntN.{pos};
 ghost use lib.ListN.{length, getD};
 ghost use Rattle.base.specs.Second.{tooMany, stateKnown, speedInRange, altitudeCode, co2InRange, noxInRange};
+ghost use Rattle.base.specs.Refusal.{fault};
 ghost use Rattle.base.specs.Plan.{referenceInRange, curveInRange, toleranceInRange, planInRange};
 
 // A refusal: its number, and the index of the first bad second or value where the number is 3.
 pub struct Fault {
     pub number: u8,
     pub place: usize,
+}
+
+// A refusal by its number and its place.
+pub fn fault_at(number: u8, place: usize) -> Fault
+    ensures { λ r. ⌜ r ≡ fault number place ⌝ }
+{
+    Fault {
+        number: number,
+        place: place,
+    }
 }
 
 // What a trip is judged by, fixed before the drive.

@@ -4,8 +4,8 @@ use mathlib.Core.Path.{_≡_}
 use mathlib.Core.List.{List, [], _∷_}
 use lib.ListN.{length, getD}
 use Rattle.base.specs.Limits.{tripLimit}
+use Rattle.base.specs.Roads.{urban, rural, motorway}
 use Rattle.base.specs.Words.{sum}
-use Rattle.second.specs.Bins.{urban, rural, motorway}
 use Rattle.tally.specs.declared.Tally.{Tally}
 use Rattle.tally.specs.Sets.{isInBin}
 use Rattle.tally.specs.Tally.{noSeconds, tallyOver, wholeTally}

@@ -44,12 +44,12 @@ pub fn measure(states: &[u8], speeds: &[u16], co2: &[u32], nox: &[u32], ranks: &
 fn join(tallies: [Tally; 3], figures: [Figures; 3]) -> [Bin; 3]
     ensures { λ r. ⌜ r ≡ joinedAll tallies figures ⌝ }
 {
-    let urban = tallies[second::URBAN];
-    let rural = tallies[second::RURAL];
-    let motorway = tallies[second::MOTORWAY];
-    let urban_figures = figures[second::URBAN];
-    let rural_figures = figures[second::RURAL];
-    let motorway_figures = figures[second::MOTORWAY];
+    let urban = tallies[base::road::URBAN];
+    let rural = tallies[base::road::RURAL];
+    let motorway = tallies[base::road::MOTORWAY];
+    let urban_figures = figures[base::road::URBAN];
+    let rural_figures = figures[base::road::RURAL];
+    let motorway_figures = figures[base::road::MOTORWAY];
     [
         bin_of(urban, urban_figures),
         bin_of(rural, rural_figures),

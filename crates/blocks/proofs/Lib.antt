@@ -1,12 +1,4 @@
--- The laws of a reader that is fed block by block.
-pub mod Carry
-pub mod Feeding
-pub mod Making
-pub mod Reaching
-pub mod Reached
-pub mod Whole
-pub mod Testing
-pub mod Ending
+-- The laws of the steps of feeding a block.
 pub mod Copying
 pub mod Going
 pub mod Taking

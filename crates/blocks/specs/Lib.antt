@@ -1,4 +1,2 @@
--- The definitions of a stream that arrives in blocks: the reader, what feeding it does, and which readers the calls make.
-pub mod Blocks
-pub mod Made
+-- What the steps of feeding a block promise each other.
 pub mod Inside

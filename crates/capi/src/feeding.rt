@@ -2,10 +2,10 @@
 
 ghost use mathlib.Core.Path.{_≡_};
 ghost use Rattle.stream.specs.Reading.{roomOf};
-ghost use Rattle.blocks.specs.Blocks.{started};
-ghost use Rattle.blocks.specs.Made.{fedOf, laneFed, endOf};
-use blocks::Fed;
-use blocks::Reader;
+ghost use Rattle.reader.specs.Blocks.{started};
+ghost use Rattle.reader.specs.Made.{fedOf, laneFed, endOf};
+use reader::Fed;
+use reader::Reader;
 use stream::ReadAnswer;
 
 // The reader before the first block.
@@ -13,7 +13,7 @@ use stream::ReadAnswer;
 pub extern "C" fn pb_start() -> Reader
     ensures { λ r. ⌜ r ≡ started ⌝ }
 {
-    blocks::start()
+    reader::start()
 }
 
 // Feeds a block into a reader and five lanes.
@@ -42,5 +42,5 @@ pub extern "C" fn pb_feed(
 pub extern "C" fn pb_end(reader: Reader) -> ReadAnswer
     ensures { λ r. ⌜ r ≡ endOf reader ⌝ }
 {
-    blocks::end(reader)
+    reader::end(reader)
 }

@@ -5,17 +5,16 @@ use mathlib.Core.List.{List, _++_}
 use native.Mathlib.Omega.{arith}
 use lib.ListN.{length, take, drop}
 use Rattle.base.specs.Limits.{tripLimit}
-use Rattle.base.specs.Words.{sum}
-use Rattle.rank.specs.Sort.{sort}
+use Rattle.base.specs.Words.{sum, withFront}
+use Rattle.order.specs.Sort.{sort}
 use Rattle.acceleration.specs.declared.Products.{Products}
 use Rattle.acceleration.specs.Products.{productsOf, figuresOf}
 use Rattle.acceleration.proofs.Writing.{products-at-most}
 use Rattle.percentile.specs.Percentile.{qOrZero}
-use Rattle.percentile.proofs.Front.{filled-length, filled-front, filled-rest}
-use Rattle.dynamics.specs.declared.Figures.{Figures}
+use Rattle.percentile.proofs.Front.{filled-length, filled-front, filled-rest, ranked-front}
 use Rattle.dynamics.specs.Dynamics.{binDynamics}
 
-module _ (bin : ℕ) (states speeds lane : List ℕ) (room : length (productsOf bin states speeds) ≤ length lane) {products : Products} {written : List ℕ} (is : products ≡ figuresOf (productsOf bin states speeds)) (w : written ≡ productsOf bin states speeds ++ drop (length (productsOf bin states speeds)) lane) where
+module _ (bin : ℕ) (states speeds lane : List ℕ) (room : length (productsOf bin states speeds) ≤ length lane) {products : Products} {written : List ℕ} (is : products ≡ figuresOf (productsOf bin states speeds)) (w : written ≡ withFront (productsOf bin states speeds) lane) where
   pub count-is : products .count ≡ length (productsOf bin states speeds)
   unfolding figuresOf
   count-is = ap (λ p. p .count) is
@@ -40,5 +39,5 @@ module _ (bin : ℕ) (states speeds lane : List ℕ) (room : length (productsOf 
   unfolding binDynamics
   figures-are e = rw (count-is, total-is, e, front) refl
 
-  pub lane-is : {ranked : List ℕ} → ranked ≡ sort (take (products .count) written) ++ drop (products .count) written → ranked ≡ sort (productsOf bin states speeds) ++ drop (length (productsOf bin states speeds)) lane
-  lane-is e = e ∙ ap₂ (λ (f r : List ℕ). sort f ++ r) front rest
+  pub lane-is : {ranked : List ℕ} → ranked ≡ sort (take (products .count) written) ++ drop (products .count) written → ranked ≡ withFront (sort (productsOf bin states speeds)) lane
+  lane-is e = e ∙ ap₂ (λ (f r : List ℕ). sort f ++ r) front rest ∙ ranked-front (productsOf bin states speeds) lane

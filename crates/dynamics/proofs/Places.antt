@@ -5,6 +5,7 @@ use mathlib.Core.List.{List, [], _∷_, _++_, append-assoc}
 use native.Mathlib.Omega.{arith}
 use lib.ListN.{length, take, drop, length-append, length-drop, drop-of-length-le}
 use lib.Seq.{take-at, drop-drop, drop-append-add, take-all}
+use Rattle.base.specs.Words.{withFront}
 use Rattle.dynamics.specs.Dynamics.{placed}
 
 -- behind what was put in before
@@ -28,23 +29,23 @@ module _ (lane : List ℕ) (from : ℕ) where
   part-room k h = rw part-is (omega (arith, length-drop from lane))
 
   -- what a call leaves of the part, put back
-  pub part-back : (values : List ℕ) (k : ℕ) {part : List ℕ} → length values ≡ k → part ≡ values ++ drop k (take (length lane - from) (drop from lane)) → take from lane ++ (part ++ drop (length lane - from) (drop from lane)) ≡ placed from values lane
-  part-back values k {part} long is = ap (λ (l : List ℕ). take from lane ++ l) (nothing-behind ∙ is ∙ ap (λ (l : List ℕ). values ++ l) rest)
+  pub part-back : (values : List ℕ) {part : List ℕ} → part ≡ withFront values (take (length lane - from) (drop from lane)) → take from lane ++ (part ++ drop (length lane - from) (drop from lane)) ≡ placed from values lane
+  part-back values {part} is = ap (λ (l : List ℕ). take from lane ++ l) (nothing-behind ∙ is ∙ ap (λ (l : List ℕ). values ++ l) rest)
     where
       nothing-behind : part ++ drop (length lane - from) (drop from lane) ≡ part
       nothing-behind = rw (drop-of-length-le (drop from lane) {i = length lane - from} (omega (arith, length-drop from lane))) (append-nothing part)
 
-      rest : drop k (take (length lane - from) (drop from lane)) ≡ drop (from + length values) lane
-      rest = rw (part-is, long) (drop-drop k from lane)
+      rest : drop (length values) (take (length lane - from) (drop from lane)) ≡ drop (from + length values) lane
+      rest = rw part-is (drop-drop (length values) from lane)
 
 -- a lane whose front was filled, and values put in right behind
-module _ (front lane : List ℕ) {filled : List ℕ} (is : filled ≡ front ++ drop (length front) lane) where
+module _ (front lane : List ℕ) {filled : List ℕ} (is : filled ≡ withFront front lane) where
   pub filled-long : length front ≤ length lane → length filled ≡ length lane
   filled-long h = ap length is ∙ length-append front (drop (length front) lane) ∙ rest
     where
       rest : length front + length (drop (length front) lane) ≡ length lane
       rest = omega (arith, length-drop (length front) lane)
 
-  pub filled-next : {a : ℕ} (values : List ℕ) {next : List ℕ} → a ≡ length front → next ≡ placed a values filled → next ≡ (front ++ values) ++ drop (length (front ++ values)) lane
+  pub filled-next : {a : ℕ} (values : List ℕ) {next : List ℕ} → a ≡ length front → next ≡ placed a values filled → next ≡ withFront (front ++ values) lane
   filled-next {a} values at put =
       put ∙ rw (is, at, length-append) (placed-next front values lane (length front) refl)

@@ -7,8 +7,9 @@ use native.Mathlib.Numerals.{add-one}
 use native.Mathlib.Omega.{arith}
 use lib.Dec.{leb, eqb}
 use lib.ListN.{length, getD}
+use Rattle.base.specs.Roads.{urban, rural, motorway}
 use Rattle.base.specs.Words.{pick}
-use Rattle.second.specs.Bins.{urban, rural, motorway, binOf}
+use Rattle.second.specs.Bins.{binOf}
 use Rattle.acceleration.specs.Products.{counts, countsIn, productsAfter}
 use Rattle.acceleration.proofs.Writing.{products-none, length-step}
 

@@ -3,10 +3,11 @@ use Prim.Native.Nat.{ℕ, _+_, _≤_}
 use mathlib.Core.Path.{_≡_, refl, sym, _∙_, ap}
 use mathlib.Core.List.{List, [], _∷_, _++_}
 use native.Mathlib.Omega.{arith}
-use lib.ListN.{length, drop, length-append}
-use Rattle.second.specs.Bins.{urban, rural, motorway}
-use Rattle.rank.specs.Sort.{sort}
-use Rattle.rank.proofs.Laws.{sort-length}
+use lib.ListN.{length, length-append}
+use Rattle.base.specs.Roads.{urban, rural, motorway}
+use Rattle.base.specs.Words.{withFront}
+use Rattle.order.specs.Sort.{sort}
+use Rattle.order.proofs.Laws.{sort-length}
 use Rattle.acceleration.specs.Products.{SpeedLanes, productsOf}
 use Rattle.dynamics.specs.declared.Figures.{Figures}
 use Rattle.dynamics.specs.Dynamics.{DynamicsLanes, binDynamics, placed, dynamicsOf, ranksOf}
@@ -34,7 +35,7 @@ module _ (states speeds ranks : List ℕ) (lanes : DynamicsLanes states speeds r
   room-urban = omega (arith, room states speeds, lanes .room)
 
   module _ {u : Figures} {l : List ℕ} (e : u ≡ binDynamics urban states speeds) (put : l ≡ placed 0 (ranked urban) ranks) where
-    after-urban : l ≡ ranked urban ++ drop (length (ranked urban)) ranks
+    after-urban : l ≡ withFront (ranked urban) ranks
     after-urban = filled-next [] ranks {filled = ranks} refl (ranked urban) refl put
 
     urban-is : u .m ≡ count urban
@@ -46,7 +47,7 @@ module _ (states speeds ranks : List ℕ) (lanes : DynamicsLanes states speeds r
         (arith, urban-is, room states speeds, lanes .room, ranked-long urban, filled-long (ranked urban) ranks after-urban (omega (arith, ranked-long urban, room states speeds, lanes .room)))
 
     module _ {r : Figures} {k : List ℕ} (e′ : r ≡ binDynamics rural states speeds) (put′ : k ≡ placed (u .m) (ranked rural) l) where
-      after-rural : k ≡ (ranked urban ++ ranked rural) ++ drop (length (ranked urban ++ ranked rural)) ranks
+      after-rural : k ≡ withFront (ranked urban ++ ranked rural) ranks
       after-rural = filled-next (ranked urban) ranks after-urban (ranked rural) (urban-is ∙ sym (ranked-long urban)) put′
 
       both-is : u .m + r .m ≡ length (ranked urban ++ ranked rural)
@@ -65,10 +66,6 @@ module _ (states speeds ranks : List ℕ) (lanes : DynamicsLanes states speeds r
         unfolding dynamicsOf
         all-figures = rw (e, e′, e″) refl
 
-        all-long : length (ranked urban ++ ranked rural ++ ranked motorway) ≡ count urban + count rural + count motorway
-        all-long = omega (arith, length-append (ranked urban ++ ranked rural) (ranked motorway), both-are, ranked-long motorway)
-
         pub all-ranked : j ≡ ranksOf states speeds ranks
         unfolding ranksOf
-        all-ranked =
-            filled-next (ranked urban ++ ranked rural) ranks after-rural (ranked motorway) both-is put″ ∙ ap (λ (n : ℕ). ranked urban ++ ranked rural ++ ranked motorway ++ drop n ranks) all-long
+        all-ranked = filled-next (ranked urban ++ ranked rural) ranks after-rural (ranked motorway) both-is put″

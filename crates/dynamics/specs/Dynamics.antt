@@ -4,9 +4,9 @@ use mathlib.Core.Path.{_≡_}
 use mathlib.Core.List.{List, [], _∷_, _++_}
 use lib.ListN.{length, take, drop}
 use Rattle.base.specs.Limits.{tripLimit}
-use Rattle.base.specs.Words.{sum}
-use Rattle.second.specs.Bins.{urban, rural, motorway}
-use Rattle.rank.specs.Sort.{sort}
+use Rattle.base.specs.Roads.{urban, rural, motorway}
+use Rattle.base.specs.Words.{sum, withFront}
+use Rattle.order.specs.Sort.{sort}
 use Rattle.acceleration.specs.Products.{productsOf}
 use Rattle.percentile.specs.Percentile.{qOrZero}
 use Rattle.dynamics.specs.declared.Figures.{Figures}
@@ -28,13 +28,14 @@ dynamicsOf states speeds = binDynamics urban states speeds ∷ binDynamics rural
 abbrev pub placed : ℕ → List ℕ → List ℕ → List ℕ
 placed from values lane = take from lane ++ (values ++ drop (from + length values) lane)
 
--- "afterwards it holds urban, then rural, then motorway products, each ascending, the rest unchanged"
+-- "urban, then rural, then motorway products, each ascending"
+abbrev pub rankedProducts : List ℕ → List ℕ → List ℕ
+rankedProducts states speeds =
+    sort (productsOf urban states speeds) ++ sort (productsOf rural states speeds) ++ sort (productsOf motorway states speeds)
+
+-- the ranking lane: "afterwards it holds urban, then rural, then motorway products, .., the rest unchanged"
 unfoldable pub ranksOf : List ℕ → List ℕ → List ℕ → List ℕ
-ranksOf states speeds ranks =
-    sort (productsOf urban states speeds)
-    ++ sort (productsOf rural states speeds)
-    ++ sort (productsOf motorway states speeds)
-    ++ drop (length (productsOf urban states speeds) + length (productsOf rural states speeds) + length (productsOf motorway states speeds)) ranks
+ranksOf states speeds ranks = withFront (rankedProducts states speeds) ranks
 
 -- what the dynamics are asked of: lanes of one length, no more than a trip's, and "a place per second" for the ranks
 pub record DynamicsLanes (states speeds ranks : List ℕ) : Type 0 where

@@ -2,10 +2,10 @@
 // percentile.
 
 ghost use mathlib.Core.Path.{_≡_};
-ghost use mathlib.Core.List.{_++_};
 ghost use Prim.Native.Nat.{_+_, _≤_};
-ghost use lib.ListN.{length, drop};
-ghost use Rattle.rank.specs.Sort.{sort};
+ghost use lib.ListN.{length};
+ghost use Rattle.base.specs.Words.{withFront};
+ghost use Rattle.order.specs.Sort.{sort};
 ghost use Rattle.acceleration.specs.Products.{SpeedLanes, productsOf};
 ghost use Rattle.dynamics.specs.Dynamics.{DynamicsLanes, binDynamics, placed, dynamicsOf, ranksOf};
 
@@ -23,11 +23,11 @@ pub fn dynamics(states: &[u8], speeds: &[u16], ranks: &mut [u32]) -> [Figures; 3
     ensures { λ r. ⌜ r ≡ dynamicsOf (now (states .entry)) (now (speeds .entry)) ⌝ }
     ensures { λ r. ⌜ now (ranks .exit) ≡ ranksOf (now (states .entry)) (now (speeds .entry)) (now (ranks .entry)) ⌝ }
 {
-    let urban = dynamics_from(states, speeds, second::URBAN, ranks, 0);
+    let urban = dynamics_from(states, speeds, base::road::URBAN, ranks, 0);
     let first = urban.m as usize;
-    let rural = dynamics_from(states, speeds, second::RURAL, ranks, first);
+    let rural = dynamics_from(states, speeds, base::road::RURAL, ranks, first);
     let both = first + rural.m as usize;
-    let motorway = dynamics_from(states, speeds, second::MOTORWAY, ranks, both);
+    let motorway = dynamics_from(states, speeds, base::road::MOTORWAY, ranks, both);
     [urban, rural, motorway]
 }
 
@@ -52,7 +52,7 @@ fn bin_dynamics(states: &[u8], speeds: &[u16], bin: usize, lane: &mut [u32]) -> 
     requires { ⌜ SpeedLanes (now states) (now speeds) ⌝ }
     requires { ⌜ length (productsOf bin (now states) (now speeds)) ≤ length (now lane) ⌝ }
     ensures { λ r. ⌜ r ≡ binDynamics bin (now (states .entry)) (now (speeds .entry)) ⌝ }
-    ensures { λ r. ⌜ now (lane .exit) ≡ sort (productsOf bin (now (states .entry)) (now (speeds .entry))) ++ drop (length (productsOf bin (now (states .entry)) (now (speeds .entry)))) (now (lane .entry)) ⌝ }
+    ensures { λ r. ⌜ now (lane .exit) ≡ withFront (sort (productsOf bin (now (states .entry)) (now (speeds .entry)))) (now (lane .entry)) ⌝ }
 {
     let products = acceleration::write_products(states, speeds, bin, lane);
     let count = products.count;

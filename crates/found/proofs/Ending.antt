@@ -1,32 +1,31 @@
 -- The sweep with twice as many moves as kept seconds is accepted and comes to its end. Assumes nothing.
-use Prim.Native.Nat.{ℕ, _+_, _-_, _*_, _≤_, _<_}
-use mathlib.Core.Path.{_≡_, refl, sym, _∙_, ap}
-use mathlib.Core.Bool.{true, false, not}
+use Prim.Native.Nat.{ℕ, _+_, _-_, _*_, _≤_}
+use mathlib.Core.Path.{_≡_, refl, _∙_, ap}
+use mathlib.Core.Bool.{true, false, and-eq-true-iff}
 use mathlib.Core.List.{List}
 use native.Mathlib.Nat.{le-refl}
 use native.Mathlib.Omega.{arith}
 use borrow.Author.Tests.{le-leb, le-ltb, leb-true}
 use lib.Dec.{leb, ltb}
 use lib.ListN.{length, getD}
-use Rattle.base.specs.Limits.{tripLimit, co2Most, referenceMost}
+use Rattle.base.specs.Limits.{tripLimit, referenceMost}
 use Rattle.base.specs.Refusal.{accepted}
-use Rattle.base.specs.Second.{tooMany, co2InRange}
-use Rattle.base.specs.Words.{firstBad}
+use Rattle.base.specs.Second.{co2InRange}
 use Rattle.base.proofs.Search.{comes-to}
 use Rattle.sweep.specs.declared.SweepState.{SweepState}
 use Rattle.sweep.specs.declared.Swept.{Swept}
-use Rattle.sweep.specs.Sweep.{beginning, isOver, afterMoves, endsAfter, isReached, firstOutOfRange, sweepRefusal, runAnswer, sweepAnswer, sweepEnds}
+use Rattle.sweep.specs.Sweep.{beginning, isOver, afterMoves, endsAfter, isReached, firstOutOfRange, sweepRefusal, sweepAnswer, sweepEnds}
 use Rattle.sweep.specs.Window.{windows}
 use Rattle.sweep.specs.Inside.{Standing}
 use Rattle.sweep.proofs.Moves.{begins, over-after, over-ends}
-use Rattle.sweep.proofs.Reached.{both, stands-reached}
+use Rattle.sweep.proofs.Reached.{stands-reached}
 use Rattle.sweep.proofs.Refusals.{accepted-answer, accepted-ends}
 use Rattle.sweep.proofs.Finished.{Ended, ended, stands, over-exactly, state-composes, ends-compose}
 use Rattle.found.specs.Inside.{Sweepable}
 
 module _ (reference : ℕ) (co2 : List ℕ) (room : ℕ) (ok : Sweepable reference co2 room) where
   pub positive : 1 ≤ reference
-  positive = leb-true 1 reference (both (leb 1 reference) (leb reference referenceMost) (ok .reference-in-range) .0)
+  positive = leb-true 1 reference (and-eq-true-iff (leb 1 reference) (leb reference referenceMost) .0 (ok .reference-in-range) .0)
 
   pub none-out : firstOutOfRange co2 ≡ length co2
   none-out =

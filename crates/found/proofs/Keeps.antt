@@ -1,6 +1,7 @@
 -- The kept lanes of a trip that can be searched can be swept, and judged once they are. Assumes nothing.
 use Prim.Native.Nat.{ℕ, _+_, _*_, _≤_}
 use mathlib.Core.Path.{_≡_, refl, sym}
+use mathlib.Core.Bool.{and-eq-true-iff}
 use mathlib.Core.List.{List}
 use native.Mathlib.Nat.{le-refl}
 use native.Mathlib.Omega.{arith}
@@ -11,14 +12,13 @@ use lib.Seq.{take-at}
 use Rattle.base.specs.declared.Plan.{Plan}
 use Rattle.base.specs.Limits.{tripLimit, speedMost, co2Most, referenceMost}
 use Rattle.base.specs.Second.{measured}
+use Rattle.base.specs.Words.{withFront}
 use Rattle.base.proofs.Products.{product-at-most}
 use Rattle.base.proofs.Sums.{sum-bound}
-use Rattle.kept.specs.Kept.{withFront}
 use Rattle.kept.proofs.Keeping.{kept-each, kept-both, kept-at-most}
 use Rattle.sweep.specs.Sweep.{beginning, endsAfter}
 use Rattle.sweep.specs.Window.{windows}
 use Rattle.sweep.proofs.Moves.{begins}
-use Rattle.sweep.proofs.Reached.{both}
 use Rattle.sweep.proofs.Refusals as refusals
 use Rattle.sweep.proofs.Finished.{written}
 use Rattle.windows.specs.Inside.{KeptSpeeds, SweptLanes}
@@ -42,7 +42,7 @@ keeps {plan} {states} {speeds} {co2} ok =
       same-length = kept-both states speeds speeds co2 (length states);
       few = omega (arith, kept-at-most states speeds co2 (length states), ok .few);
       places = omega (arith, kept-at-most states speeds co2 (length states), ok .ends-room);
-      each-moves = kept-each states speeds speeds (λ x. 100 ≤ x) (length states) (λ i h q. omega (arith, leb-true 100 (getD speeds i 0) (both (eqb (getD states i 0) measured) (leb 100 (getD speeds i 0)) q .1)));
+      each-moves = kept-each states speeds speeds (λ x. 100 ≤ x) (length states) (λ i h q. omega (arith, leb-true 100 (getD speeds i 0) (and-eq-true-iff (eqb (getD states i 0) measured) (leb 100 (getD speeds i 0)) .0 q .1)));
       speeds-in-range = kept-each states speeds speeds (λ x. x ≤ speedMost) (length states) (ok .speeds-in-range);
       co2-in-range = kept-each states speeds co2 (λ x. x ≤ co2Most) (length states) (ok .co2-in-range);
     }

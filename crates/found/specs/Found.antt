@@ -3,12 +3,12 @@ use Prim.Native.Nat.{ℕ, _+_}
 use mathlib.Core.List.{List, [], _∷_}
 use lib.ListN.{length, getD}
 use Rattle.base.specs.declared.Plan.{Plan}
+use Rattle.base.specs.Roads.{urban, rural, motorway}
 use Rattle.kept.specs.Kept.{keptOf}
 use Rattle.sweep.specs.Sweep.{beginning, endsAfter}
 use Rattle.sweep.specs.Window as window
 use Rattle.windows.specs.declared.ClassCount.{ClassCount}
 use Rattle.windows.specs.Counts.{noCount, countsOf}
-use Rattle.windows.specs.Figure.{urban, rural, motorway}
 use Rattle.found.specs.declared.Found.{Found}
 
 -- "Kept speeds and CO2 masses stand in order in lanes of their own."

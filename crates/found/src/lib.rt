@@ -6,7 +6,7 @@ use windows::ClassCount;
 ghost use mathlib.Core.Path.{_≡_};
 ghost use Prim.Native.Nat.{_+_};
 ghost use lib.ListN.{length};
-ghost use Rattle.kept.specs.Kept.{withFront};
+ghost use Rattle.base.specs.Words.{withFront};
 ghost use Rattle.sweep.specs.Sweep.{beginning, endsAfter};
 ghost use Rattle.sweep.specs.Window as window;
 ghost use Rattle.found.specs.Found.{keptSpeeds, keptCo2, endsIn, endsOf, foundIn, foundOf, threeOf};
@@ -80,8 +80,8 @@ fn three_of(all: [ClassCount; 4]) -> [ClassCount; 3]
     ensures { λ r. ⌜ r ≡ threeOf all ⌝ }
 {
     [
-        all[windows::URBAN],
-        all[windows::RURAL],
-        all[windows::MOTORWAY],
+        all[base::road::URBAN],
+        all[base::road::RURAL],
+        all[base::road::MOTORWAY],
     ]
 }

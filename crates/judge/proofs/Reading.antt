@@ -5,11 +5,11 @@ use mathlib.Core.Bool.{Bool, true, false}
 use mathlib.Core.List.{List}
 use native.Mathlib.Omega.{arith}
 use lib.ListN.{length}
-use Rattle.blocks.specs.declared.Reader.{Reader}
-use Rattle.blocks.specs.declared.Fed.{Fed}
-use Rattle.blocks.specs.Blocks.{waiting, started, readerAfter}
-use Rattle.blocks.specs.Made.{wasMade, fedOf}
-use Rattle.blocks.proofs.Making.{start-made, feeding-made}
+use Rattle.reader.specs.declared.Reader.{Reader}
+use Rattle.reader.specs.declared.Fed.{Fed}
+use Rattle.reader.specs.Blocks.{waiting, started, readerAfter}
+use Rattle.reader.specs.Made.{wasMade, fedOf}
+use Rattle.reader.proofs.Making.{start-made, feeding-made}
 use Rattle.judge.specs.declared.Input.{Input}
 use Rattle.judge.specs.Input.{Unsettled, seenBy, GoesOn}
 use Rattle.judge.proofs.Settling.{enough, seen-more, seen-most}

@@ -9,12 +9,12 @@ use lib.ListN.{length, drop, length-append, length-drop}
 use Rattle.base.specs.Words.{pick}
 use Rattle.stream.specs.Items.{Walk}
 use Rattle.stream.proofs.Splitting.{Anywhere, Ends, ends-through, ends-stopped, walk-stops}
-use Rattle.blocks.specs.declared.Reader.{Reader}
-use Rattle.blocks.specs.Blocks.{zeros, carried, heldIn, standingOf, waiting, settled, started, standsAfter, readerAfter}
-use Rattle.blocks.specs.Made.{wasMade}
+use Rattle.reader.specs.declared.Reader.{Reader}
+use Rattle.reader.specs.Blocks.{zeros, carried, heldIn, standingOf, waiting, settled, started, standsAfter, readerAfter}
+use Rattle.reader.specs.Made.{wasMade}
 use Rattle.judge.specs.Input.{seenBy}
-use Rattle.blocks.proofs.Feeding.{reader-open}
-use Rattle.blocks.proofs.Making.{usable, held-length, start-made, feeding-made}
+use Rattle.reader.proofs.Feeding.{reader-open}
+use Rattle.reader.proofs.Making.{usable, held-length, start-made, feeding-made}
 
 -- the bytes that settle every stream: a plan, 8,192 seconds with values, and one item more, of which a plan is the longest
 abbrev pub enough : ℕ

@@ -3,8 +3,8 @@ use Prim.Native.Nat.{ℕ, _+_, _<_}
 use mathlib.Core.Path.{_≡_}
 use mathlib.Core.Bool.{true}
 use Rattle.base.specs.Refusal.{accepted}
-use Rattle.blocks.specs.declared.Reader.{Reader}
-use Rattle.blocks.specs.Made.{wasMade}
+use Rattle.reader.specs.declared.Reader.{Reader}
+use Rattle.reader.specs.Made.{wasMade}
 use Rattle.judge.specs.declared.Input.{Input}
 
 -- a reader whose answer further bytes can change

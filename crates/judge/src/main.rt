@@ -3,8 +3,8 @@
 // so on standard error and judges nothing.
 
 use base::limits;
-use blocks::Reader;
 use item::kind;
+use reader::Reader;
 use stream::ReadAnswer;
 ghost use mathlib.Core.Path.{_≡_};
 ghost use mathlib.Core.Bool.{false};
@@ -25,6 +25,7 @@ struct Input {
     failed: bool, // whether a read failed
 }
 
+// Lends the lanes: nine arrays with a place for each second of the longest trip.
 fn main() {
     let mut states = [0u8; limits::TRIP];
     let mut speeds = [0u16; limits::TRIP];
@@ -67,7 +68,7 @@ fn judge_input(
         return;
     }
     print_answer(
-        blocks::end(reader),
+        reader::end(reader),
         states,
         speeds,
         altitudes,
@@ -124,7 +125,7 @@ fn read_input(
     ensures { λ r. ⌜ r .more ≡ false ⌝ }
 {
     let mut input = Input {
-        reader: blocks::start(),
+        reader: reader::start(),
         more: true,
         failed: false,
     };

@@ -5,10 +5,10 @@ use mathlib.Core.Bool.{Bool, true, false}
 use mathlib.Core.List.{List, [], _∷_, _++_}
 use native.Mathlib.Omega.{arith}
 use lib.ListN.{length, getD, set, length-append, length-set}
-use Rattle.base.specs.Words.{pick, afterFirst}
+use Rattle.base.specs.Words.{pick, afterFirst, withFront}
 use Rattle.base.proofs.Seconds.{after-more}
 use Rattle.base.proofs.Store.{store-next}
-use Rattle.kept.specs.Kept.{secondKept, keptAfter, withFront}
+use Rattle.kept.specs.Kept.{secondKept, keptAfter}
 
 -- what holds of each value of a list and of one more holds of each of both
 each-append : (P : ℕ → Type 0) (l : List ℕ) (x : ℕ) → ((k : ℕ) → k < length l → P (getD l k 0)) → P x → (k : ℕ) → k < length (l ++ (x ∷ [])) → P (getD (l ++ (x ∷ [])) k 0)

@@ -4,7 +4,7 @@ use mathlib.Core.Path.{_≡_}
 use mathlib.Core.Bool.{Bool, _&&_}
 use mathlib.Core.List.{List, [], _∷_, _++_}
 use lib.Dec.{leb, eqb}
-use lib.ListN.{length, drop, getD}
+use lib.ListN.{length, getD}
 use Rattle.base.specs.Second.{measured}
 use Rattle.base.specs.Words.{pick, afterFirst}
 
@@ -24,10 +24,6 @@ keptAfter states speeds lane =
 -- "Kept speeds and CO2 masses stand in order in lanes of their own.": what a lane has for the kept seconds
 abbrev pub keptOf : List ℕ → List ℕ → List ℕ → List ℕ
 keptOf states speeds lane = keptAfter states speeds lane (length states)
-
--- a lane with these values at its front, and the rest as it was
-abbrev pub withFront : List ℕ → List ℕ → List ℕ
-withFront front lane = front ++ drop (length front) lane
 
 -- what keeping is asked of: lanes of one length, and a place per second in each lane to be written
 pub record KeptLanes (states speeds co2 : List ℕ) (speed-places co2-places : ℕ) : Type 0 where

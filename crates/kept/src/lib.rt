@@ -3,7 +3,8 @@
 
 ghost use mathlib.Core.Path.{_≡_};
 ghost use lib.ListN.{length};
-ghost use Rattle.kept.specs.Kept.{KeptLanes, secondKept, keptOf, withFront};
+ghost use Rattle.base.specs.Words.{withFront};
+ghost use Rattle.kept.specs.Kept.{KeptLanes, secondKept, keptOf};
 
 // The slowest speed of a kept second, 0.01 km/h.
 const SLOWEST: u16 = 100;

@@ -1,12 +1,11 @@
 -- The answer, case by case: what each test of the mass step leads to. Assumes nothing.
 use Prim.Native.Nat.{ℕ, _≤_, _<_}
-use mathlib.Core.Path.{_≡_, refl, sym, _∙_}
+use mathlib.Core.Path.{_≡_}
 use mathlib.Core.Bool.{true, false}
 use lib.Ieee.{Float}
 use borrow.Author.Tests.{le-leb, lt-leb}
 use Rattle.mass.specs.declared.Reading.{Reading}
 use Rattle.mass.specs.declared.Setting.{Setting}
-use Rattle.mass.specs.declared.Weighed.{Weighed}
 use Rattle.mass.specs.declared.Weighed.the-variants.{Mass, BadInput, TooLarge}
 use Rattle.mass.specs.Mass.{readingInRange, settingInRange, lastProduct, wholePart, massAnswer}
 

@@ -1,18 +1,18 @@
 -- A product of bounded numbers is bounded by the product of the bounds, as long as that is a whole number that an f64 holds. Assumes nothing.
-use Prim.Native.Nat.{ℕ, _+_, _*_, _^_, _≤_, _<_}
+use Prim.Native.Nat.{ℕ, _*_, _^_, _≤_, _<_}
 use mathlib.Core.Path.{_≡_, refl, sym, _∙_}
 use mathlib.Core.Bool.{Bool, true, false, _&&_, false≢true}
 use native.Mathlib.Nat.{mul-one, zero-mul, mul-zero, mul-pos, mul-le-mul, mul-mul-mul-comm, le-of-eq}
 use native.Mathlib.Omega.{arith}
 use lib.Dec.{T, lit≤}
-use lib.IntN.{ℤ, pos}
+use lib.IntN.{ℤ}
 use lib.Ieee.{Float, nan, inf, fin, binary64, mul, round, ofInt, le, unlike, up, down}
 use lib.Ieee.Exact.{HasValue, round-exact}
 use lib.Ieee.Back.{round-whole}
 use lib.Ieee.Order.{round-mono}
 use lib.Ieee.Bits.{is-true}
 use lib.Ieee.Fits.{up-pos, down-pos, and-i}
-use Rattle.mass.specs.Mass.{number, zeroTo, times}
+use Rattle.mass.specs.Mass.{zeroTo, times}
 use Rattle.mass.specs.Bounded.{Bounded, bounded}
 use Rattle.mass.proofs.Ranges.{no-size, through, zero-to-bounded}
 

@@ -1,13 +1,13 @@
 -- The whole part of a number from 1 up, from its bits. With n the number in units of the format's smallest value, 2 ^ -1074, the bits keep its 53 leading
 -- digits and say how many, k, were dropped: the exponent's field is k + 1. Assumes nothing.
-use Prim.Native.Nat.{ℕ, zero, suc, _+_, _-_, _*_, _/_, _%_, _^_, _≤_, _<_, suc-le-suc}
-use mathlib.Core.Path.{_≡_, refl, sym, _∙_, ap, subst}
-use mathlib.Core.Bool.{Bool, true, false, true≢false}
-use native.Mathlib.Nat.{le-trans, lt-of-lt-of-le, lt-irrefl, mul-comm, mul-one, suc-mul, pow-suc, mul-right-comm, mul-le-mul-right, mul-lt-mul-of-pos-right, le-div-iff-mul-le, div-lt-iff-lt-mul, div-div-eq-div-mul, mul-div-mul-right, div-eq-of-lt, zero-mul, zero-div, zero-add}
+use Prim.Native.Nat.{ℕ, suc, _+_, _-_, _*_, _/_, _%_, _^_, _≤_, _<_, suc-le-suc}
+use mathlib.Core.Path.{_≡_, refl, sym, _∙_, ap}
+use mathlib.Core.Bool.{true, false, true≢false}
+use native.Mathlib.Nat.{le-trans, lt-of-lt-of-le, lt-irrefl, mul-comm, suc-mul, pow-suc, mul-right-comm, mul-le-mul-right, mul-lt-mul-of-pos-right, le-div-iff-mul-le, div-lt-iff-lt-mul, div-div-eq-div-mul, mul-div-mul-right, div-eq-of-lt, zero-mul, zero-div, zero-add}
 use native.Mathlib.Numerals.{add-one}
 use native.Mathlib.Omega.{arith}
 use lib.Pow.{pow-pos, pow-mono, pow-add, shr-shr, high, low}
-use lib.Dec.{ltb, lit≤}
+use lib.Dec.{lit≤}
 use lib.IntN.{ℤ, pos}
 use lib.Ieee.{Float, fin, binary64, size, lt, toBits, up, down}
 use lib.Ieee.Digits.{size-lt, size-reaches, size-le}

@@ -3,8 +3,7 @@
 // specs/Mass.antt says what is right, in the paper's words.
 
 ghost use mathlib.Core.Path.{_≡_};
-ghost use lib.Ieee.{mul, binary64};
-ghost use Rattle.mass.specs.Mass.{zeroTo, aboveZeroTo, readingInRange, settingInRange, inPpm, isDry, wetPpm, lastProduct, wholePart, massAnswer, co2Mass, noxMass};
+ghost use Rattle.mass.specs.Mass.{zeroTo, aboveZeroTo, readingInRange, settingInRange, wetPpm, lastProduct, wholePart, massAnswer, co2Mass, noxMass};
 ghost use Rattle.mass.specs.Bounded.{Bounded};
 
 // What the gas bench read. Ppm runs 0 to 200,000, percent 0 to 20.
@@ -119,34 +118,11 @@ fn above_zero_to(x: f64, top: f64) -> bool
 fn wet_ppm(reading: Reading, factor: f64) -> f64
     ensures { λ r. ⌜ r ≡ wetPpm reading factor ⌝ }
 {
-    let ppm = in_ppm(reading);
-    if is_dry(reading) {
-        return ppm * factor;
-    }
-    ppm
-}
-
-// The concentration in ppm, wet or dry as it was read.
-fn in_ppm(reading: Reading) -> f64
-    ensures { λ r. ⌜ r ≡ inPpm reading ⌝ }
-{
     match reading {
         Reading::WetPpm(x) => x,
-        Reading::DryPpm(x) => x,
+        Reading::DryPpm(x) => x * factor,
         Reading::WetPercent(x) => x * PPM_IN_A_PERCENT,
-        Reading::DryPercent(x) => x * PPM_IN_A_PERCENT,
-    }
-}
-
-// Whether the concentration was read dry.
-fn is_dry(reading: Reading) -> bool
-    ensures { λ r. ⌜ r ≡ isDry reading ⌝ }
-{
-    match reading {
-        Reading::WetPpm(_) => false,
-        Reading::DryPpm(_) => true,
-        Reading::WetPercent(_) => false,
-        Reading::DryPercent(_) => true,
+        Reading::DryPercent(x) => x * PPM_IN_A_PERCENT * factor,
     }
 }
 

@@ -7,9 +7,10 @@ use borrow.Author.Tests.{lt-ltb, le-ltb}
 use lib.ListN.{length, take, drop, length-append, length-drop}
 use lib.Seq.{length-take-le, length-front, take-at, drop-at}
 use Rattle.base.specs.Limits.{tripLimit}
-use Rattle.rank.specs.Sort.{sort}
-use Rattle.rank.specs.Order.{Ascending}
-use Rattle.rank.proofs.Laws.{sort-length, sort-ascending}
+use Rattle.base.specs.Words.{withFront}
+use Rattle.order.specs.Sort.{sort}
+use Rattle.order.specs.Order.{Ascending}
+use Rattle.order.proofs.Laws.{sort-length, sort-ascending}
 use Rattle.percentile.specs.Percentile.{fewest, qOf, qOrZero, Ranked}
 
 -- Q, or zero
@@ -49,7 +50,7 @@ module _ (lane : List ℕ) (m : ℕ) (h : m ≤ length lane) {ranked : List ℕ}
   whole = ap (λ (l : List ℕ). l ++ drop m lane) is
 
 -- values copied to the front of a lane
-module _ (values lane : List ℕ) (room : length values ≤ length lane) {filled : List ℕ} (is : filled ≡ values ++ drop (length values) lane) where
+module _ (values lane : List ℕ) (room : length values ≤ length lane) {filled : List ℕ} (is : filled ≡ withFront values lane) where
   pub filled-length : length filled ≡ length lane
   filled-length = ap length is ∙ length-append values (drop (length values) lane) ∙ rest
     where
@@ -61,3 +62,7 @@ module _ (values lane : List ℕ) (room : length values ≤ length lane) {filled
 
   pub filled-rest : drop (length values) filled ≡ drop (length values) lane
   filled-rest = ap (drop (length values)) is ∙ drop-at values (drop (length values) lane) (length values) refl
+
+-- ranked, they have as many places as before
+pub ranked-front : (values lane : List ℕ) → sort values ++ drop (length values) lane ≡ withFront (sort values) lane
+ranked-front values lane = ap (λ (n : ℕ). sort values ++ drop n lane) (sym (sort-length values))

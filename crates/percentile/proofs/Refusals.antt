@@ -2,15 +2,15 @@
 use Prim.Native.Nat.{ℕ, _≤_}
 use mathlib.Core.Path.{_≡_, refl}
 use mathlib.Core.Bool.{Bool, true, false}
-use mathlib.Core.List.{List, _++_}
+use mathlib.Core.List.{List}
 use borrow.Author.Tests.{eqb-false, ltb-false, eq-eqb, ne-eqb}
 use lib.Dec.{ltb}
-use lib.ListN.{length, drop}
+use lib.ListN.{length}
 use Rattle.base.specs.Refusal.{fault}
 use Rattle.base.specs.Limits.{tripLimit}
 use Rattle.base.specs.Second.{tooMany}
-use Rattle.base.specs.Words.{pick}
-use Rattle.rank.specs.Sort.{sort}
+use Rattle.base.specs.Words.{pick, withFront}
+use Rattle.order.specs.Sort.{sort}
 use Rattle.percentile.specs.declared.Answer.the-variants.{Q, Refused}
 use Rattle.percentile.specs.Percentile.{fewest, firstBadProduct, faultOf, qOf, answerOf, laneOf}
 
@@ -51,6 +51,6 @@ module _ (values lane : List ℕ) where
   unfolding answerOf
   answer-accepted h = rw (eq-eqb (faultOf values (length lane) .number) 0 h) refl
 
-  pub lane-accepted : faultOf values (length lane) .number ≡ 0 → laneOf values lane ≡ sort values ++ drop (length values) lane
+  pub lane-accepted : faultOf values (length lane) .number ≡ 0 → laneOf values lane ≡ withFront (sort values) lane
   unfolding laneOf
   lane-accepted h = rw (eq-eqb (faultOf values (length lane) .number) 0 h) refl

@@ -1,20 +1,20 @@
 -- What the percentile call amounts to: refused exactly when, nothing else written. Assumes nothing.
 use Prim.Native.Nat.{ℕ}
-use mathlib.Core.Path.{_≡_, refl, sym, _∙_, ap}
+use mathlib.Core.Path.{_≡_, refl}
 use mathlib.Core.Bool.{Bool, true, false}
-use mathlib.Core.List.{List, _++_}
+use mathlib.Core.List.{List}
 use mathlib.Core.Logic.{_↔_}
 use borrow.Author.Tests.{ltb-true, ltb-false, lt-ltb, le-ltb}
 use lib.Dec.{ltb, eqb}
-use lib.ListN.{length, drop}
+use lib.ListN.{length}
 use Rattle.base.specs.Refusal.{fault}
 use Rattle.base.specs.Limits.{tripLimit}
 use Rattle.base.specs.Second.{tooMany}
 use Rattle.base.specs.Words.{pick}
 use Rattle.base.specs.InFront.{InFront}
 use Rattle.base.proofs.InFront.{in-front}
-use Rattle.rank.specs.Sort.{sort}
-use Rattle.rank.proofs.Laws.{sort-length}
+use Rattle.order.specs.Sort.{sort}
+use Rattle.order.proofs.Laws.{sort-length}
 use Rattle.base.specs.declared.Fault.{Fault}
 use Rattle.percentile.specs.declared.Answer.{Answer}
 use Rattle.percentile.specs.declared.Answer.the-variants.{Q, Refused}
@@ -73,8 +73,7 @@ module _ (values : List ℕ) (places : ℕ) where
 pub accepted-writes : (values lane : List ℕ) → faultOf values (length lane) .number ≡ 0 → InFront (sort values) (length values) lane (laneOf values lane)
 accepted-writes values lane z =
     let facts = accepted-facts values (length lane) z in
-    let written : laneOf values lane ≡ sort values ++ drop (length (sort values)) lane = lane-accepted values lane z ∙ ap (λ (n : ℕ). sort values ++ drop n lane) (sym (sort-length values)) in
-    rw written (in-front (sort values) lane (length values) (sort-length values) (facts .room))
+    rw (lane-accepted values lane z) (in-front (sort values) lane (length values) (sort-length values) (facts .room))
 
 -- a refusal writes nothing
 pub nothing-written : (values lane : List ℕ) → (faultOf values (length lane) .number ≡ 0 → ⊥) → laneOf values lane ≡ lane

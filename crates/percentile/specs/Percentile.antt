@@ -1,15 +1,15 @@
 -- The percentile Q of products (Appendix 7a).
 use Prim.Native.Nat.{ℕ, _+_, _-_, _*_, _/_, _%_, _≤_}
 use mathlib.Core.Bool.{Bool}
-use mathlib.Core.List.{List, _++_}
+use mathlib.Core.List.{List}
 use lib.Dec.{leb, ltb, eqb}
-use lib.ListN.{length, getD, drop}
+use lib.ListN.{length, getD}
 use Rattle.base.specs.Limits.{tripLimit}
 use Rattle.base.specs.Refusal.{accepted, tooManyValues, outOfRange, laneTooShort, tooFewValues, fault}
 use Rattle.base.specs.Second.{tooMany}
-use Rattle.base.specs.Words.{pick, firstBad}
-use Rattle.rank.specs.Sort.{sort}
-use Rattle.rank.specs.Order.{Ascending}
+use Rattle.base.specs.Words.{pick, firstBad, withFront}
+use Rattle.order.specs.Sort.{sort}
+use Rattle.order.specs.Order.{Ascending}
 use Rattle.base.specs.declared.Fault.{Fault}
 use Rattle.percentile.specs.declared.Answer.{Answer}
 use Rattle.percentile.specs.declared.Answer.the-variants.{Q, Refused}
@@ -62,7 +62,7 @@ answerOf values places = pick (eqb (faultOf values places .number) accepted) (Q 
 
 -- "ranks them into a lent lane with a place for each": the lane afterwards
 unfoldable pub laneOf : List ℕ → List ℕ → List ℕ
-laneOf values lane = pick (eqb (faultOf values (length lane) .number) accepted) (sort values ++ drop (length values) lane) lane
+laneOf values lane = pick (eqb (faultOf values (length lane) .number) accepted) (withFront (sort values) lane) lane
 
 -- the paper's number of refusal, place and Q for each case of the answer
 unfoldable pub refusalOf : Answer → ℕ

@@ -6,8 +6,9 @@ ghost use mathlib.Core.List.{_++_};
 ghost use Prim.Native.Nat.{_≤_};
 ghost use lib.ListN.{length, take, drop};
 ghost use Rattle.base.specs.Limits.{tripLimit};
-ghost use Rattle.rank.specs.Sort.{sort};
-ghost use Rattle.percentile.specs.Percentile.{Ranked, qOf, qOrZero, productInRange, firstBadProduct, faultOf, answerOf, laneOf};
+ghost use Rattle.base.specs.Words.{withFront};
+ghost use Rattle.order.specs.Sort.{sort};
+ghost use Rattle.percentile.specs.Percentile.{Ranked, qOf, qOrZero, firstBadProduct, faultOf, answerOf, laneOf};
 use base::Fault;
 
 // The answer of the percentile call.
@@ -55,34 +56,19 @@ fn fault_of(values: &[u32], places: usize) -> Fault
 {
     let n = values.len();
     if base::too_many(n) {
-        return Fault {
-            number: base::refusal::TOO_MANY,
-            place: 0,
-        };
+        return base::fault_at(base::refusal::TOO_MANY, 0);
     }
     if n < FEWEST {
-        return Fault {
-            number: base::refusal::TOO_FEW_VALUES,
-            place: 0,
-        };
+        return base::fault_at(base::refusal::TOO_FEW_VALUES, 0);
     }
     if places < n {
-        return Fault {
-            number: base::refusal::LANE_TOO_SHORT,
-            place: 0,
-        };
+        return base::fault_at(base::refusal::LANE_TOO_SHORT, 0);
     }
     let bad = first_bad(values);
     if bad < n {
-        return Fault {
-            number: base::refusal::OUT_OF_RANGE,
-            place: bad,
-        };
+        return base::fault_at(base::refusal::OUT_OF_RANGE, bad);
     }
-    Fault {
-        number: base::refusal::ACCEPTED,
-        place: 0,
-    }
+    base::fault_at(base::refusal::ACCEPTED, 0)
 }
 
 // The index of the first value out of range, and the number of values where there is none.
@@ -102,7 +88,7 @@ fn first_bad(values: &[u32]) -> usize
 // Copies the values to the front of the lane.
 fn copy(values: &[u32], lane: &mut [u32])
     requires { ⌜ length (now values) ≤ length (now lane) ⌝ }
-    ensures { λ r. ⌜ now (lane .exit) ≡ now (values .entry) ++ drop (length (now (values .entry))) (now (lane .entry)) ⌝ }
+    ensures { λ r. ⌜ now (lane .exit) ≡ withFront (now (values .entry)) (now (lane .entry)) ⌝ }
 {
     let mut i = 0;
     while i < values.len() {

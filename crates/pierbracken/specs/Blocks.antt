@@ -4,16 +4,16 @@ use mathlib.Core.Path.{_≡_}
 use mathlib.Core.List.{List, _++_, flatten}
 use mathlib.Core.Logic.{_↔_}
 use lib.ListN.{length}
-use Rattle.item.proofs.Encoding.{Bytes}
+use Rattle.item.specs.Format.{Bytes}
 use Rattle.stream.specs.declared.Row.{Row}
 use Rattle.stream.specs.Reading.{readOf, laneAfter}
-use Rattle.blocks.specs.declared.Reader.{Reader}
-use Rattle.blocks.specs.Blocks.{started, readerAfter, laneWith, fedAll, laneAll}
-use Rattle.blocks.specs.Made.{fedOf, endOf}
-use Rattle.blocks.proofs.Reached.{Reached}
-use Rattle.blocks.proofs.Feeding as feeding
-use Rattle.blocks.proofs.Whole as whole
-use Rattle.blocks.proofs.Reached as reached
+use Rattle.reader.specs.declared.Reader.{Reader}
+use Rattle.reader.specs.Blocks.{started, readerAfter, laneWith, fedAll, laneAll}
+use Rattle.reader.specs.Made.{fedOf, endOf}
+use Rattle.reader.specs.Reached.{Reached}
+use Rattle.reader.proofs.Feeding as feeding
+use Rattle.reader.proofs.Whole as whole
+use Rattle.reader.proofs.Reached as reached
 
 -- `room` is the number of places of the shortest lane, `value` what a lane holds of a second.
 

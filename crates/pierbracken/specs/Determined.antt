@@ -7,9 +7,9 @@ use Rattle.mass.proofs.co2_mass.Reads as co2-mass
 use Rattle.mass.proofs.nox_mass.Reads as nox-mass
 use Rattle.item.proofs.read_item.Reads as read-item
 use Rattle.stream.proofs.read_stream.Reads as read-stream
-use Rattle.blocks.proofs.start.Reads as start
+use Rattle.reader.proofs.start.Reads as start
 use Rattle.blocks.proofs.feed.Reads as feed
-use Rattle.blocks.proofs.end.Reads as end
+use Rattle.reader.proofs.end.Reads as end
 use Rattle.sweep.proofs.sweep.Reads as sweep
 use Rattle.acceleration.proofs.d_of_second.Reads as d-of-second
 use Rattle.percentile.proofs.percentile.Reads as percentile

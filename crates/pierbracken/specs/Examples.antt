@@ -8,8 +8,9 @@ use lib.ListN.{length, take, replicate}
 use lib.Ieee.{fin, ofInt, le, lt, eq, mul, round}
 use Rattle.base.specs.declared.Plan.{Plan}
 use Rattle.base.specs.Second.{altitudeInRange, height, altitudeCode}
+use Rattle.base.specs.Roads.{urban}
 use Rattle.base.specs.Words.{sum, afterFirst, firstBad}
-use Rattle.second.specs.Bins.{urban, binOf}
+use Rattle.second.specs.Bins.{binOf}
 use Rattle.second.specs.Lanes.{hasValues}
 use Rattle.sweep.specs.Sweep.{beginning, move, moveEnds, afterMoves, endsAfter}
 use Rattle.sweep.specs.Window.{windows, windowsAmong, hasWindow, windowLast}

@@ -4,16 +4,20 @@ use mathlib.Core.Path.{_≡_}
 use mathlib.Core.List.{List, map}
 use lib.ListN.{length}
 use Rattle.base.specs.declared.Plan.{Plan}
-use Rattle.base.specs.InFront.{InFront}
+use Rattle.base.specs.InFront.{InFront, StoredFrom}
 use Rattle.second.specs.Lanes.{Lanes}
 use Rattle.stream.specs.declared.Row.{Row}
 use Rattle.stream.specs.Reading.{readOf, secondsOf, laneAfter}
 use Rattle.stream.proofs.Theorems as stream
+use Rattle.reader.specs.declared.Reader.{Reader}
+use Rattle.reader.specs.Blocks.{secondsAdded}
+use Rattle.reader.specs.Made.{fedOf, laneFed}
+use Rattle.reader.proofs.Ending as blocks
 use Rattle.sweep.specs.declared.SweepState.{SweepState}
 use Rattle.sweep.specs.Sweep.{afterMoves, sweepAnswer, sweepEnds}
 use Rattle.sweep.specs.Runs.{Written}
 use Rattle.sweep.proofs.Theorems as sweep
-use Rattle.rank.specs.Sort.{sort}
+use Rattle.order.specs.Sort.{sort}
 use Rattle.percentile.specs.Percentile.{faultOf, laneOf}
 use Rattle.percentile.proofs.Theorems as percentile
 use Rattle.trip.specs.Refusals.{roomsOf}
@@ -24,6 +28,7 @@ use Rattle.report.specs.Lines.{bufferWritten}
 use Rattle.report.proofs.Theorems as report
 
 -- `InFront values n before after`: the lane has the n values in its first n places, and is otherwise as it was.
+-- `StoredFrom place values before after`: the lane has the values from the place on, and is otherwise as it was.
 
 -- ---- the stream: `value` is what a lane holds of a second, `room` the places of the shortest lane
 module _ {ℓ} {A : Type ℓ} (value : Row → A) (room : ℕ) (bytes : List ℕ) (lane : List A) where
@@ -33,6 +38,14 @@ module _ {ℓ} {A : Type ℓ} (value : Row → A) (room : ℕ) (bytes : List ℕ
   -- "touches no place beyond the seconds read"
   pub stream-accepted : readOf room bytes .refusal ≡ 0 → room ≤ length lane → InFront (map value (secondsOf room bytes)) (readOf room bytes .seconds) lane (laneAfter value room bytes lane)
   stream-accepted = stream.accepted-writes value room bytes lane
+
+-- ---- a stream in blocks: the seconds of a block behind those read before
+module _ {ℓ} {A : Type ℓ} (value : Row → A) (room : ℕ) (reader : Reader) (block : List ℕ) (lane : List A) where
+  pub block-refused : (fedOf room reader block .refusal ≡ 0 → ⊥) → laneFed value room reader block lane ≡ lane
+  block-refused = blocks.refused-writes-nothing value room reader block lane
+
+  pub block-accepted : fedOf room reader block .refusal ≡ 0 → room ≤ length lane → StoredFrom (reader .seconds) (map value (secondsAdded room reader block)) lane (laneFed value room reader block lane)
+  block-accepted = blocks.accepted-writes value room reader block lane
 
 -- ---- the sweep: "a call writes only the places of windows it closes"
 module _ (reference : ℕ) (co2 ends : List ℕ) (state : SweepState) (budget : ℕ) where

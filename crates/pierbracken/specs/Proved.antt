@@ -7,12 +7,12 @@ use Rattle.item.proofs.read_item.Statement as read-item-is
 use Rattle.item.proofs.read_item.Met as read-item-met
 use Rattle.stream.proofs.read_stream.Statement as read-stream-is
 use Rattle.stream.proofs.read_stream.Met as read-stream-met
-use Rattle.blocks.proofs.start.Statement as start-is
-use Rattle.blocks.proofs.start.Met as start-met
+use Rattle.reader.proofs.start.Statement as start-is
+use Rattle.reader.proofs.start.Met as start-met
 use Rattle.blocks.proofs.feed.Statement as feed-is
 use Rattle.blocks.proofs.feed.Met as feed-met
-use Rattle.blocks.proofs.end.Statement as end-is
-use Rattle.blocks.proofs.end.Met as end-met
+use Rattle.reader.proofs.end.Statement as end-is
+use Rattle.reader.proofs.end.Met as end-met
 use Rattle.sweep.proofs.sweep.Statement as sweep-is
 use Rattle.sweep.proofs.sweep.Met as sweep-met
 use Rattle.acceleration.proofs.d_of_second.Statement as d-of-second-is

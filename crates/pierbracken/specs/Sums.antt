@@ -7,6 +7,9 @@ use Rattle.second.specs.Lanes.{Lanes}
 use Rattle.sweep.specs.Window.{windows}
 use Rattle.windows.specs.Counts.{countsOf, allWindows}
 use Rattle.windows.proofs.Counts as counts
+use Rattle.order.specs.Sort.{sort}
+use Rattle.order.specs.Order.{Ascending, count}
+use Rattle.order.proofs.Laws as ranking
 use Rattle.trip.specs.declared.Rooms.{Rooms}
 use Rattle.trip.specs.Trip.{evaluated, answerOf}
 use Rattle.trip.specs.Sums.{SumsUp}
@@ -24,3 +27,10 @@ module _ (plan : Plan) (lanes : Lanes) where
 -- the windows of the three classes and the unclassed are all windows
 pub windows-add-up : (plan : Plan) (speeds co2 : List ℕ) → 1 ≤ plan .reference → allWindows (countsOf plan speeds co2) ≡ windows (plan .reference) co2
 windows-add-up = counts.classes-add-up
+
+-- the ranking lane holds `sort` of each bin's products: they ascend, and each stands there as often as among the products
+pub ranks-ascend : (products : List ℕ) → Ascending (sort products)
+ranks-ascend = ranking.sort-ascending
+
+pub ranks-same : (product : ℕ) (products : List ℕ) → count product (sort products) ≡ count product products
+ranks-same = ranking.sort-count

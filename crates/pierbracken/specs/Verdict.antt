@@ -5,7 +5,7 @@ use mathlib.Core.Logic.{_↔_}
 use Rattle.base.specs.declared.Plan.{Plan}
 use Rattle.second.specs.Lanes.{Lanes}
 use Rattle.reasons.specs.Reasons.{Reason}
-use Rattle.reasons.specs.Verdict.{bitSet, bitNumber}
+use Rattle.verdict.specs.Verdict.{bitSet, bitNumber}
 use Rattle.trip.specs.declared.Rooms.{Rooms}
 use Rattle.trip.specs.Trip.{evaluated, answerOf}
 use Rattle.trip.specs.Rules.{Holds}

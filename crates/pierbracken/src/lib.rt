@@ -29,11 +29,11 @@ pub use stream::ReadAnswer;
 pub use stream::read_stream;
 
 // A stream that arrives in blocks, cut anywhere: a reader is fed block by block and asked at the end.
-pub use blocks::Fed;
-pub use blocks::Reader;
-pub use blocks::end;
 pub use blocks::feed;
-pub use blocks::start;
+pub use reader::Fed;
+pub use reader::Reader;
+pub use reader::end;
+pub use reader::start;
 
 // The sweep over the kept seconds, cut by a budget of moves and taken up again.
 pub use sweep::SweepState;

@@ -2,13 +2,13 @@
 use Prim.Native.Nat.{ℕ, _≤_}
 use mathlib.Core.Path.{_≡_, refl}
 use mathlib.Core.Bool.{Bool, true, false}
-use mathlib.Core.List.{List, _++_}
+use mathlib.Core.List.{List}
 use native.Mathlib.Omega.{arith}
 use lib.Dec.{leb}
 use lib.ListN.{length, drop, length-append}
 use borrow.Author.Tests.{eq-eqb, ne-eqb}
 use Rattle.base.specs.Refusal.{accepted}
-use Rattle.base.specs.Words.{pick}
+use Rattle.base.specs.Words.{pick, withFront}
 use Rattle.stream.specs.declared.ReadAnswer.{ReadAnswer}
 use Rattle.second.specs.Lanes.{Lanes}
 use Rattle.trip.specs.declared.Evaluated.{Evaluated}
@@ -77,6 +77,6 @@ pub written-inside : (text buffer : List ℕ) → lengthWritten text buffer ≤ 
 unfolding lengthWritten bufferWritten
 written-inside text buffer = go (leb (length text) (length buffer))
   where
-    go : (fits : Bool) → pick fits (length text) 0 ≤ length (pick fits (text ++ drop (length text) buffer) buffer)
+    go : (fits : Bool) → pick fits (length text) 0 ≤ length (pick fits (withFront text buffer) buffer)
     go true = omega (arith, length-append text (drop (length text) buffer))
     go false = omega arith

@@ -4,9 +4,9 @@ use mathlib.Core.List.{List}
 use lib.Dec.{eqb}
 use lib.ListN.{take, getD}
 use Rattle.base.specs.Refusal.{accepted}
+use Rattle.base.specs.Roads.{urban, rural, motorway}
 use Rattle.base.specs.Words.{pick}
 use Rattle.stream.specs.declared.ReadAnswer.{ReadAnswer}
-use Rattle.second.specs.Bins.{urban, rural, motorway}
 use Rattle.second.specs.Lanes.{Lanes, lanesOf}
 use Rattle.windows.specs.declared.ClassCount.{ClassCount}
 use Rattle.windows.specs.Counts.{noCount}

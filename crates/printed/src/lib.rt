@@ -129,9 +129,9 @@ fn lines_of(trip: Evaluated) -> Judged
     ensures { λ r. ⌜ r ≡ linesOf trip ⌝ }
 {
     let classes = trip.classes;
-    let urban = classes[second::URBAN];
-    let rural = classes[second::RURAL];
-    let motorway = classes[second::MOTORWAY];
+    let urban = classes[base::road::URBAN];
+    let rural = classes[base::road::RURAL];
+    let motorway = classes[base::road::MOTORWAY];
     Judged {
         seconds: trip.seconds as u64,
         missing: trip.missing as u64,

@@ -1,10 +1,3 @@
--- The laws of the sorted list for callers, and those of the steps that rank a slice.
-pub mod Laws
-mod Cases
-mod Exchange
-mod Insertion
-mod Firsts
-mod Carrying
-mod Moving
+-- The laws of a slice that is split and ranked on both sides.
 mod Splitting
 mod Sides

@@ -1,3 +1,2 @@
--- The sorted list, and the words in which the steps of the ranking are stated.
-pub mod Sort
-pub mod Order
+-- What a split of a slice promises.
+pub mod Split

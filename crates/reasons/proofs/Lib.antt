@@ -1,5 +1,2 @@
--- The laws of the verdict.
-pub mod Masks
-pub mod Bits
+-- The laws of the reasons: a test says what its rule says.
 pub mod Says
-pub mod Laws

@@ -6,10 +6,10 @@ use mathlib.Core.Logic.{_⊎_, inl, inr, ⊎-elim}
 use borrow.Author.Tests.{ltb-true, leb-true, leb-false, eqb-true, lt-ltb, le-leb, eq-eqb}
 use native.Mathlib.Omega.{arith}
 use lib.Dec.{leb, ltb, eqb}
+use Rattle.base.specs.Roads.{urban, rural, motorway}
 use Rattle.base.specs.Words.{pick}
 use Rattle.climb.specs.Climb.{steep}
 use Rattle.lively.specs.Lively.{tooLively, tooDull}
-use Rattle.second.specs.Bins.{urban, rural, motorway}
 use Rattle.reasons.specs.declared.Part.{Part}
 use Rattle.windows.specs.declared.ClassCount.{ClassCount}
 use Rattle.reasons.specs.declared.Figures.{Figures}

@@ -1,4 +1,3 @@
--- The definitions of the sixteen reasons and of the verdict.
+-- The definitions of the sixteen reasons, as tests and as rules.
 pub mod Reasons
-pub mod Verdict
 pub mod Rules

@@ -4,9 +4,9 @@ use mathlib.Core.Bool.{Bool, _&&_, _||_}
 use mathlib.Core.List.{List, [], _∷_}
 use lib.Dec.{leb, ltb, eqb}
 use lib.ListN.{getD}
+use Rattle.base.specs.Roads.{urban, rural, motorway}
 use Rattle.climb.specs.Climb.{steep}
 use Rattle.lively.specs.Lively.{tooLively, tooDull}
-use Rattle.second.specs.Bins.{urban, rural, motorway}
 use Rattle.reasons.specs.declared.Part.{Part}
 use Rattle.windows.specs.declared.ClassCount.{ClassCount}
 use Rattle.reasons.specs.declared.Figures.{Figures}

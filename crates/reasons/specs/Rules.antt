@@ -3,7 +3,7 @@ use Prim.Native.Nat.{ℕ, _+_, _*_, _≤_, _<_}
 use mathlib.Core.Path.{_≡_}
 use mathlib.Core.Bool.{true}
 use mathlib.Core.Logic.{_⊎_}
-use Rattle.second.specs.Bins.{urban, rural, motorway}
+use Rattle.base.specs.Roads.{urban, rural, motorway}
 use Rattle.reasons.specs.declared.Part.{Part}
 use Rattle.windows.specs.declared.ClassCount.{ClassCount}
 use Rattle.reasons.specs.declared.Figures.{Figures}

@@ -1,15 +1,15 @@
 -- Laws of a text in a buffer: one that fits is written at the front, one that does not changes nothing. Assumes nothing.
-use Prim.Native.Nat.{ℕ, _+_, _<_, _≤_}
+use Prim.Native.Nat.{ℕ, _<_, _≤_}
 use mathlib.Core.Path.{_≡_, refl, _∙_}
 use mathlib.Core.Bool.{Bool, true, false}
-use mathlib.Core.List.{List, _++_}
+use mathlib.Core.List.{List}
 use native.Mathlib.Nat.{zero-add}
 use native.Mathlib.Omega.{arith}
 use lib.Dec.{leb}
-use lib.ListN.{length, drop}
+use lib.ListN.{length}
 use lib.Seq.{sets-eq}
 use borrow.Author.Tests.{le-leb, lt-leb, leb-true, leb-false}
-use Rattle.base.specs.Words.{pick}
+use Rattle.base.specs.Words.{pick, withFront}
 use Rattle.report.specs.Lines.{lengthWritten, bufferWritten}
 use Rattle.text.specs.Steps.{Wrote}
 
@@ -18,7 +18,7 @@ pub fits-length : (text b : List ℕ) → length text ≤ length b → lengthWri
 unfolding lengthWritten
 fits-length text b h = rw (le-leb (length text) (length b) h) refl
 
-pub fits-buffer : (text b : List ℕ) → length text ≤ length b → bufferWritten text b ≡ text ++ drop (length text) b
+pub fits-buffer : (text b : List ℕ) → length text ≤ length b → bufferWritten text b ≡ withFront text b
 unfolding bufferWritten
 fits-buffer text b h = rw (le-leb (length text) (length b) h) refl
 

@@ -3,8 +3,8 @@ use Prim.Native.Nat.{ℕ}
 use Prim.Native.String.{String}
 use mathlib.Core.List.{List, _++_}
 use lib.Dec.{leb}
-use lib.ListN.{length, drop}
-use Rattle.base.specs.Words.{pick}
+use lib.ListN.{length}
+use Rattle.base.specs.Words.{pick, withFront}
 use Rattle.report.specs.declared.ClassLine.{ClassLine}
 use Rattle.report.specs.declared.Judged.{Judged}
 use Rattle.text.specs.Text.{bytes, decimal, hex}
@@ -48,7 +48,7 @@ lengthWritten text buffer = pick (leb (length text) (length buffer)) (length tex
 
 -- the buffer afterwards: the text at its front and the rest as it was, or all as it was where the text does not fit
 unfoldable pub bufferWritten : List ℕ → List ℕ → List ℕ
-bufferWritten text buffer = pick (leb (length text) (length buffer)) (text ++ drop (length text) buffer) buffer
+bufferWritten text buffer = pick (leb (length text) (length buffer)) (withFront text buffer) buffer
 
 -- no text is longer: 80 bytes of words, spaces, line ends and hex digits, and eleven numbers of at most 20 digits
 abbrev pub longestText : ℕ

@@ -1,8 +1,8 @@
 -- The answer of the whole-stream call, step by step: at the first item, at each second, at the end. Assumes nothing.
-use Prim.Native.Nat.{ℕ, suc, _+_, _-_, _≤_, _<_}
+use Prim.Native.Nat.{ℕ, _+_, _-_, _≤_, _<_}
 use mathlib.Core.Path.{_≡_, refl, sym, _∙_, ap}
 use mathlib.Core.Bool.{Bool, true, false}
-use mathlib.Core.List.{List, [], _∷_}
+use mathlib.Core.List.{List, []}
 use native.Mathlib.Omega.{arith}
 use lib.Dec.{eqb}
 use lib.ListN.{length, getD, drop}
@@ -11,7 +11,7 @@ use Rattle.base.specs.declared.Plan.{Plan}
 use Rattle.item.specs.Item.{itemOf, sizeOf}
 use Rattle.item.proofs.Views.{planIn}
 use Rattle.stream.specs.declared.ReadAnswer.{ReadAnswer}
-use Rattle.stream.specs.Items.{Placed, itemsFrom, numberOf, Standing, atStart, Walk, through, stopped, walk}
+use Rattle.stream.specs.Items.{itemsFrom, numberOf, Standing, atStart, through, stopped, walk}
 use Rattle.stream.specs.Reading.{refusedAt, answerOf, readOf}
 use Rattle.stream.proofs.Walking.{here, withPlan, items-none, items-here, walk-bad, second-walk, plan-walk}
 

@@ -1,7 +1,7 @@
 -- The states that a sweep reaches are those that stand where the rule says: so refusal 13 needs no replay. Assumes nothing.
 use Prim.Native.Nat.{ℕ, zero, suc, _+_, _≤_, _<_}
 use mathlib.Core.Path.{_≡_, refl, sym, ap}
-use mathlib.Core.Bool.{Bool, true, false, _&&_, true≢false}
+use mathlib.Core.Bool.{Bool, true, false, _&&_, and-eq-true-iff}
 use mathlib.Core.List.{List}
 use native.Mathlib.Omega.{arith}
 use lib.Dec.{leb, ltb, eqb}
@@ -14,12 +14,6 @@ use Rattle.sweep.specs.Sweep.{beginning, isOver, move, afterMoves, moves
 use Rattle.sweep.specs.Inside.{Standing}
 use Rattle.sweep.proofs.Prefix.{first-rises}
 use Rattle.sweep.proofs.Moves.{Next, next, begins, stands-after, over-after}
-
--- both tests passed
-pub both : (a b : Bool) → a && b ≡ true → (a ≡ true) × (b ≡ true)
-both true true e = (refl, refl)
-both true false e = absurd (true≢false (sym e))
-both false b e = absurd (true≢false (sym e))
 
 -- two states with the same four numbers are the same
 same-state : (s t : SweepState) → s .taken ≡ t .taken → s .dropped ≡ t .dropped → s .mass ≡ t .mass → s .moves ≡ t .moves → s ≡ t
@@ -66,7 +60,7 @@ module _ (reference : ℕ) (co2 : List ℕ) where
   -- the two facts of a sweep that is over
   pub over-facts : (s : SweepState) → isOver reference co2 s ≡ true → (s .mass < reference) × (length co2 ≤ s .taken)
   over-facts s o =
-      let p = both (ltb (s .mass) reference) (leb (length co2) (s .taken)) o in
+      let p = and-eq-true-iff (ltb (s .mass) reference) (leb (length co2) (s .taken)) .0 o in
       (ltb-true (s .mass) reference (p .0), leb-true (length co2) (s .taken) (p .1))
 
   -- of two states with equal moves that stand where the rule says, neither has taken more
@@ -119,9 +113,9 @@ module _ (reference : ℕ) (co2 : List ℕ) where
         let d = eqb (there .dropped) (s .dropped) in
         let m = eqb (there .mass) (s .mass) in
         let n = eqb (there .moves) (s .moves) in
-        let p = both (t && d && m) n e in
-        let q = both (t && d) m (p .0) in
-        let r = both t d (q .0) in
+        let p = and-eq-true-iff (t && d && m) n .0 e in
+        let q = and-eq-true-iff (t && d) m .0 (p .0) in
+        let r = and-eq-true-iff t d .0 (q .0) in
         same-state there s (eqb-true (there .taken) (s .taken) (r .0)) (eqb-true (there .dropped) (s .dropped) (r .1)) (eqb-true (there .mass) (s .mass) (q .1)) (eqb-true (there .moves) (s .moves) (p .1))
 
     pub reached-stands : isReached reference co2 s ≡ true → Standing reference co2 s

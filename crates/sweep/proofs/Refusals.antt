@@ -1,7 +1,7 @@
 -- The refusals of the sweep, case by case in their order, and what an accepted call may take for granted. Assumes nothing.
 use Prim.Native.Nat.{ℕ, _+_, _*_, _≤_, _<_}
 use mathlib.Core.Path.{_≡_, refl}
-use mathlib.Core.Bool.{Bool, true, false, not, _&&_, and-false}
+use mathlib.Core.Bool.{Bool, true, false, not, _&&_, and-false, and-eq-true-iff}
 use mathlib.Core.List.{List}
 use native.Mathlib.Nat.{le-refl}
 use native.Mathlib.Omega.{arith}
@@ -20,7 +20,7 @@ use Rattle.sweep.specs.declared.SweepState.{SweepState}
 use Rattle.sweep.specs.Sweep.{endsAfter, isReached, firstOutOfRange, sweepRefusal, runAnswer, refusedAnswer, sweepAnswer, sweepEnds}
 use Rattle.sweep.specs.Outcomes.{Accepted, Outcome, bad-reference, too-many, too-short, bad-mass, never-reached, fine}
 use Rattle.sweep.specs.Inside.{Measured, Ready}
-use Rattle.sweep.proofs.Reached.{both, reached-stands}
+use Rattle.sweep.proofs.Reached.{reached-stands}
 
 -- the first bad index is not passed by i + 1 exactly where it is not passed by i and i is good
 pub fine-so-far : (good : ℕ → Bool) (n i : ℕ) → i < n → leb i (firstBad good n) && good i ≡ leb (i + 1) (firstBad good n)
@@ -104,7 +104,7 @@ module _ (reference : ℕ) (co2 : List ℕ) (room : ℕ) (s : SweepState) where
   -- and is ready to run
   pub ready : Accepted reference co2 room s → Ready reference co2 room s
   ready ok =
-      let range = both (leb 1 reference) (leb reference referenceMost) (ok .reference-in-range) in
+      let range = and-eq-true-iff (leb 1 reference) (leb reference referenceMost) .0 (ok .reference-in-range) in
       let positive = leb-true 1 reference (range .0) in
       record { positive = positive; masses = measured co2 (ok .few) (ok .in-range); stands = reached-stands reference co2 positive s (ok .reached); places = ok .places }
 

@@ -2,7 +2,7 @@
 -- `Windows`, those of the machine in `Finished`. Assumes nothing.
 use Prim.Native.Nat.{ℕ, _+_, _≤_, _<_}
 use mathlib.Core.Path.{_≡_, refl, sym, _∙_, ap}
-use mathlib.Core.Bool.{true}
+use mathlib.Core.Bool.{true, and-eq-true-iff}
 use mathlib.Core.List.{List}
 use mathlib.Core.Logic.{_↔_}
 use native.Mathlib.Omega.{arith}
@@ -22,7 +22,7 @@ use Rattle.sweep.specs.Window.{windows}
 use Rattle.sweep.specs.Outcomes.{Accepted, Outcome}
 use Rattle.sweep.specs.Runs.{Written, Spent, Resumed, Whole}
 use Rattle.sweep.proofs.Moves.{begins, stands-after}
-use Rattle.sweep.proofs.Reached.{both, moves-counted, made-most, fewer-over, stands-reached}
+use Rattle.sweep.proofs.Reached.{moves-counted, made-most, fewer-over, stands-reached}
 use Rattle.sweep.proofs.Refusals.{outcome, gives, passed, ready, refused-answer, accepted-answer, refused-ends, accepted-ends}
 use Rattle.sweep.proofs.Windows.{windows-most}
 use Rattle.sweep.proofs.Finished.{ended, over-exactly, written, finished-ends, state-composes, ends-compose, moves-compose}
@@ -147,7 +147,7 @@ module _ (reference : ℕ) (co2 ends : List ℕ) (budget : ℕ) where
 -- kept lanes in range are accepted from the beginning
 pub accepts-beginning : (reference : ℕ) (co2 : List ℕ) (room : ℕ) → referenceInRange reference ≡ true → length co2 ≤ tripLimit → length co2 ≤ room → ((i : ℕ) → i < length co2 → getD co2 i 0 ≤ co2Most) → Accepted reference co2 room beginning
 accepts-beginning reference co2 room r few places light =
-    let range = both (leb 1 reference) (leb reference referenceMost) r in
+    let range = and-eq-true-iff (leb 1 reference) (leb reference referenceMost) .0 r in
     let all : firstBad (λ i. co2InRange (getD co2 i 0)) (length co2) ≡ length co2 = first-bad-is (λ i. co2InRange (getD co2 i 0)) (length co2) (length co2) (record { within = omega arith; before = λ i h. le-leb (getD co2 i 0) co2Most (light i h); there = λ (h : length co2 < length co2). absurd (omega arith) }) in
     record {
       reference-in-range = r;

@@ -9,9 +9,10 @@ use borrow.Author.Tests.{ltb-true, le-leb}
 use lib.Dec.{leb, ltb, eqb}
 use lib.ListN.{getD}
 use Rattle.base.specs.Limits.{tripLimit}
+use Rattle.base.specs.Roads.{urban}
 use Rattle.base.specs.Words.{afterFirst}
 use Rattle.base.proofs.Seconds.{after-more}
-use Rattle.second.specs.Bins.{urban, binOf}
+use Rattle.second.specs.Bins.{binOf}
 use Rattle.tally.specs.Sets.{sumOver, isMissing, isAbove}
 use Rattle.tally.specs.Counts.{larger, gapWith, gapAfter, longestGap, isSlowUrban, countsAfter, countsWith, Few}
 use Rattle.tally.proofs.Sums.{sum-over-more, how-many-at-most}

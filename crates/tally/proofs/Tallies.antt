@@ -10,9 +10,10 @@ use lib.Dec.{leb, eqb}
 use lib.ListN.{length, getD, set}
 use Rattle.base.specs.Limits.{tripLimit}
 use Rattle.base.specs.Second.{measured, missing, check, stateKnown}
+use Rattle.base.specs.Roads.{urban, rural, motorway}
 use Rattle.base.specs.Words.{pick, afterFirst}
 use Rattle.base.proofs.Choice.{both-ways}
-use Rattle.second.specs.Bins.{urban, rural, motorway, binOf}
+use Rattle.second.specs.Bins.{binOf}
 use Rattle.second.specs.Lanes.{hasValues}
 use Rattle.tally.specs.declared.Tally.{Tally}
 use Rattle.tally.specs.Sets.{sumOver, howMany, isMissing, isPresent, isInBin}

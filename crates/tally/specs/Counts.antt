@@ -7,8 +7,8 @@ use lib.Dec.{ltb, eqb}
 use lib.ListN.{length, getD}
 use Rattle.base.specs.Limits.{tripLimit}
 use Rattle.base.specs.Second.{missing}
+use Rattle.base.specs.Roads.{urban}
 use Rattle.base.specs.Words.{pick, afterFirst}
-use Rattle.second.specs.Bins.{urban}
 use Rattle.second.specs.Lanes.{hasValues}
 use Rattle.tally.specs.Sets.{howMany, isMissing, isInBin, isAbove}
 use Rattle.tally.specs.declared.Counts.{Counts}

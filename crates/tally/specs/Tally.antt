@@ -7,8 +7,8 @@ use lib.Dec.{eqb}
 use lib.ListN.{length, getD}
 use Rattle.base.specs.Limits.{tripLimit}
 use Rattle.base.specs.Second.{measured}
+use Rattle.base.specs.Roads.{urban, rural, motorway}
 use Rattle.base.specs.Words.{pick}
-use Rattle.second.specs.Bins.{urban, rural, motorway}
 use Rattle.second.specs.Lanes.{hasValues}
 use Rattle.tally.specs.Sets.{sumOver, howMany, isPresent, isInBin}
 use Rattle.tally.specs.declared.Tally.{Tally}

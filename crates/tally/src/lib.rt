@@ -84,9 +84,9 @@ pub fn total(bins: [Tally; 3]) -> Tally
     requires { ⌜ Room (added bins) ⌝ }
     ensures { λ r. ⌜ r ≡ added bins ⌝ }
 {
-    let urban = bins[second::URBAN];
-    let rural = bins[second::RURAL];
-    let motorway = bins[second::MOTORWAY];
+    let urban = bins[base::road::URBAN];
+    let rural = bins[base::road::RURAL];
+    let motorway = bins[base::road::MOTORWAY];
     Tally {
         seconds: urban.seconds + rural.seconds + motorway.seconds,
         distance: urban.distance + rural.distance + motorway.distance,

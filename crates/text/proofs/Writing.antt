@@ -1,20 +1,13 @@
 -- Laws of writing: texts written one behind the other are their joined text. Assumes nothing.
 use Prim.Native.Nat.{ℕ, suc, _+_, _<_, _≤_}
-use mathlib.Core.Path.{_≡_, refl, sym, _∙_, ap}
+use mathlib.Core.Path.{_≡_, refl, _∙_, ap}
 use mathlib.Core.List.{List, [], _∷_, _++_}
-use native.Mathlib.Nat.{add-zero}
 use native.Mathlib.Numerals.{add-one}
 use native.Mathlib.Omega.{arith}
 use lib.ListN.{length, getD, drop, set, length-append, drop-of-length-le}
 use lib.Seq.{sets, length-sets, set-comm, drop-cons}
+use Rattle.base.proofs.Store.{sets-append}
 use Rattle.text.specs.Steps.{Wrote}
-
--- two texts stored one behind the other are their joined text stored
-pub sets-append : (xs ys l : List ℕ) (i : ℕ) → sets l i (xs ++ ys) ≡ sets (sets l i xs) (i + length xs) ys
-sets-append [] ys l i = rw (add-zero i) refl
-sets-append (x ∷ xs) ys l i =
-    let e : suc i + length xs ≡ i + suc (length xs) = omega arith in
-    sets-append xs ys (set l i x) (suc i) ∙ ap (λ (k : ℕ). sets (sets (set l i x) (suc i) xs) k ys) e
 
 -- a byte stored behind a text may as well be stored before it
 pub sets-past : (xs l : List ℕ) (i k a : ℕ) → i + length xs ≤ k → sets (set l k a) i xs ≡ set (sets l i xs) k a
@@ -43,7 +36,7 @@ sets-four l k first second third fourth =
 pub both-wrote : {b c d x y : List ℕ} {i j k : ℕ} → Wrote b i x c j → Wrote c j y d k → Wrote b i (x ++ y) d k
 both-wrote {b} {c} {d} {x} {y} {i} p q =
     record {
-      stored = q .stored ∙ rw (p .stored, p .behind) (sym (sets-append x y b i));
+      stored = q .stored ∙ rw (p .stored, p .behind) (sets-append b i x y);
       behind = omega (arith, q .behind, p .behind, length-append x y);
     }
 

@@ -4,8 +4,8 @@ use mathlib.Core.Path.{_≡_, refl}
 use mathlib.Core.Bool.{true, false}
 use mathlib.Core.List.{List}
 use Rattle.base.specs.declared.Plan.{Plan}
+use Rattle.base.specs.Words.{withFront}
 use Rattle.second.specs.Lanes.{Lanes}
-use Rattle.kept.specs.Kept.{withFront}
 use Rattle.found.specs.Found.{keptSpeeds, keptCo2, endsOf}
 use Rattle.dynamics.specs.Dynamics.{ranksOf}
 use Rattle.trip.specs.declared.Rooms.{Rooms}

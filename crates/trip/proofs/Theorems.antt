@@ -1,5 +1,5 @@
 -- What the contract of the evaluation amounts to: accepted, refused, and the sums. Assumes nothing.
-use Prim.Native.Nat.{ℕ, _+_}
+use Prim.Native.Nat.{_+_}
 use mathlib.Core.Path.{_≡_, sym, _∙_, ap}
 use mathlib.Core.Bool.{not, _||_}
 use lib.ListN.{getD}

@@ -1,36 +1,29 @@
 -- What the verdict of a trip says: each bit the rule of its reason, and zero that no rule holds; of an accepted trip with every rule in the
 -- paper's words on the trip's own lanes. Assumes nothing.
-use Prim.Native.Nat.{ℕ, _*_, _≤_, _<_}
+use Prim.Native.Nat.{_<_}
 use mathlib.Core.Path.{_≡_, refl, sym, _∙_}
 use mathlib.Core.Bool.{true}
-use mathlib.Core.List.{List}
 use mathlib.Core.Logic.{_⊎_, _↔_, inl, inr, ⊎-elim}
-use lib.ListN.{length, getD}
 use Rattle.base.specs.declared.Plan.{Plan}
-use Rattle.base.specs.Words.{sum}
-use Rattle.second.specs.Bins.{urban, rural, motorway}
+use Rattle.base.specs.Roads.{urban, rural, motorway}
 use Rattle.second.specs.Lanes.{Lanes, secondsIn}
-use Rattle.tally.specs.Sets.{sumOver, howMany, isMissing, isPresent, isInBin, isAbove}
 use Rattle.tally.specs.Tally.{tallyOver}
-use Rattle.tally.specs.Counts.{isSlowUrban, countsAfter}
+use Rattle.tally.specs.Counts.{countsAfter}
 use Rattle.tally.specs.Facts.{Gap, SpeedAbove}
 use Rattle.tally.proofs.Gaps.{gap-found, gap-counted}
 use Rattle.tally.proofs.SomeSecond.{speed-above}
-use Rattle.climb.specs.Climb.{climbAfter, climbOf}
+use Rattle.climb.specs.Climb.{climbOf}
 use Rattle.climb.specs.Facts.{CorrectedAbove, EndsDiffer}
 use Rattle.climb.proofs.High.{high-says}
 use Rattle.climb.proofs.EndsDiffer.{ends-say}
-use Rattle.acceleration.specs.Products.{productsOf}
-use Rattle.windows.specs.declared.ClassCount.{ClassCount}
-use Rattle.windows.specs.Counts.{noCount, countsOf}
 use Rattle.windows.proofs.ByClass.{no-window}
-use Rattle.found.specs.Found.{keptSpeeds, keptCo2, threeOf, foundIn}
+use Rattle.found.specs.Found.{threeOf, foundIn}
 use Rattle.bins.specs.Bins.{binOf, binsOf}
 use Rattle.reasons.specs.Reasons.{Reason, tripLength, missingSeconds, shortPart, shareOfDistance, urbanMean, slowSeconds, fewFastSeconds, tooFast, endsApart, tooHigh, tooMuchClimb, fewProducts, livelyBin, dullBin, noWindows, outsideBand}
-use Rattle.reasons.specs.Rules.{Outside, ShareOutside, Lively, Dull, Rule}
-use Rattle.reasons.specs.Verdict.{bitSet, bitNumber, verdict}
+use Rattle.reasons.specs.Rules.{Rule}
+use Rattle.verdict.specs.Verdict.{bitSet, bitNumber, verdict}
 use Rattle.reasons.proofs.Says.{Says}
-use Rattle.reasons.proofs.Laws.{bit-says, no-reason, valid-if-none}
+use Rattle.verdict.proofs.Laws.{bit-says, no-reason, valid-if-none}
 use Rattle.trip.specs.declared.Rooms.{Rooms}
 use Rattle.trip.specs.Trip.{partsOf, figuresFrom, answerFrom, concluded, figures, evaluated}
 use Rattle.trip.specs.Rules.{HasWindow, OneOf, speedsKept, co2Kept, Holds}

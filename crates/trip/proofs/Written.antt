@@ -6,27 +6,26 @@ use native.Mathlib.Nat.{le-refl}
 use native.Mathlib.Omega.{arith}
 use lib.ListN.{length, getD, length-append}
 use Rattle.base.specs.declared.Plan.{Plan}
-use Rattle.base.specs.Words.{pick}
+use Rattle.base.specs.Roads.{urban, rural, motorway}
+use Rattle.base.specs.Words.{pick, withFront}
 use Rattle.base.proofs.InFront.{in-front}
-use Rattle.kept.specs.Kept.{withFront}
 use Rattle.kept.proofs.Keeping.{kept-at-most}
 use Rattle.sweep.specs.Sweep.{beginning}
 use Rattle.sweep.specs.Window.{hasWindow, windowEnd}
 use Rattle.sweep.proofs.Moves.{begins}
 use Rattle.sweep.proofs.Finished.{written, finished-ends, over-exactly}
-use Rattle.rank.proofs.Laws.{sort-length}
+use Rattle.order.proofs.Laws.{sort-length}
 use Rattle.acceleration.specs.Products.{productsOf}
 use Rattle.base.specs.declared.Fault.{Fault}
-use Rattle.second.specs.Bins.{urban, rural, motorway}
 use Rattle.second.specs.Lanes.{Lanes, secondsIn}
 use Rattle.windows.proofs.PlanRanges.{plan-ranges}
 use Rattle.found.specs.Found.{keptSpeeds, keptCo2, endsIn, endsOf}
-use Rattle.dynamics.specs.Dynamics.{ranksOf}
+use Rattle.dynamics.specs.Dynamics.{rankedProducts, ranksOf}
 use Rattle.dynamics.proofs.Room.{room}
 use Rattle.trip.specs.declared.Rooms.{Rooms}
 use Rattle.trip.specs.Refusals.{roomsOf, tripFault}
 use Rattle.trip.specs.Trip.{answerOf}
-use Rattle.trip.specs.Lent.{keptSpeedsLane, keptCo2Lane, endsLane, ranksLane, rankedProducts, Leaves}
+use Rattle.trip.specs.Lent.{keptSpeedsLane, keptCo2Lane, endsLane, ranksLane, Leaves}
 use Rattle.trip.proofs.Passed.{Accepted, passed, is-accepted, is-refused}
 use Rattle.trip.proofs.Answers.{refused-speeds, refused-co2, refused-ends, refused-ranks, accepted-speeds, accepted-co2, accepted-ends, accepted-ranks}
 use Rattle.trip.proofs.Refused.{answer-fault}
@@ -57,7 +56,7 @@ module _ (states speeds lane : List ℕ) where
 
   ranks-there : ranksOf states speeds lane ≡ withFront (rankedProducts states speeds) lane
   unfolding ranksOf
-  ranks-there = rw ranks-long refl
+  ranks-there = refl
 
 -- ---- the call
 module _ (plan : Plan) (trip : Lanes) (speeds co2 ends ranks : List ℕ) where

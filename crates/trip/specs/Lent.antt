@@ -1,19 +1,15 @@
 -- The lent lanes after the call. A refusal "writes into no lane"; "An accepted call changes only the places named for it."
 use Prim.Native.Nat.{ℕ}
 use mathlib.Core.Path.{_≡_}
-use mathlib.Core.List.{List, _++_}
+use mathlib.Core.List.{List}
 use lib.ListN.{length, getD}
 use Rattle.base.specs.declared.Plan.{Plan}
 use Rattle.base.specs.InFront.{InFront}
-use Rattle.base.specs.Words.{pick}
-use Rattle.second.specs.Bins.{urban, rural, motorway}
+use Rattle.base.specs.Words.{pick, withFront}
 use Rattle.second.specs.Lanes.{Lanes}
-use Rattle.kept.specs.Kept.{withFront}
 use Rattle.sweep.specs.Window.{hasWindow, windowEnd}
-use Rattle.rank.specs.Sort.{sort}
-use Rattle.acceleration.specs.Products.{productsOf}
 use Rattle.found.specs.Found.{keptSpeeds, keptCo2, endsOf}
-use Rattle.dynamics.specs.Dynamics.{ranksOf}
+use Rattle.dynamics.specs.Dynamics.{rankedProducts, ranksOf}
 use Rattle.trip.specs.declared.Rooms.{Rooms}
 use Rattle.trip.specs.Refusals.{isAccepted}
 
@@ -35,11 +31,6 @@ module _ (plan : Plan) (trip : Lanes) (rooms : Rooms) (lane : List ℕ) where
   ranksLane = pick (isAccepted plan trip rooms) (ranksOf (trip .states) (trip .speeds) lane) lane
 
 -- ---- place by place
--- the products of the bins, each ascending: "urban, then rural, then motorway"
-abbrev pub rankedProducts : List ℕ → List ℕ → List ℕ
-rankedProducts states speeds =
-    sort (productsOf urban states speeds) ++ sort (productsOf rural states speeds) ++ sort (productsOf motorway states speeds)
-
 -- the four lent lanes after an accepted call: the kept speeds and masses, each window's end in the place of its first second, and
 -- the ranked products; elsewhere what was there
 pub record Leaves (plan : Plan) (trip : Lanes) (speeds co2 ends ranks speeds′ co2′ ends′ ranks′ : List ℕ) : Type 0 where

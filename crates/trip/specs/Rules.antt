@@ -4,8 +4,8 @@ use mathlib.Core.List.{List}
 use mathlib.Core.Logic.{_⊎_}
 use lib.ListN.{length, getD}
 use Rattle.base.specs.declared.Plan.{Plan}
+use Rattle.base.specs.Roads.{urban, rural, motorway}
 use Rattle.base.specs.Words.{sum}
-use Rattle.second.specs.Bins.{urban, rural, motorway}
 use Rattle.second.specs.Lanes.{Lanes, secondsIn}
 use Rattle.tally.specs.Sets.{sumOver, howMany, isMissing, isPresent, isInBin, isAbove}
 use Rattle.tally.specs.Counts.{isSlowUrban}

@@ -3,7 +3,7 @@ use Prim.Native.Nat.{ℕ, _+_}
 use mathlib.Core.Path.{_≡_}
 use lib.ListN.{getD}
 use Rattle.base.specs.declared.Plan.{Plan}
-use Rattle.second.specs.Bins.{urban, rural, motorway}
+use Rattle.base.specs.Roads.{urban, rural, motorway}
 use Rattle.second.specs.Lanes.{Lanes}
 use Rattle.bins.specs.declared.Bin.{Bin}
 use Rattle.trip.specs.Trip.{noBin, evaluated}

@@ -6,9 +6,9 @@ use lib.IntN.{ℤ}
 use lib.ListN.{length, getD}
 use Rattle.base.specs.declared.Plan.{Plan}
 use Rattle.base.specs.Refusal.{accepted}
+use Rattle.base.specs.Roads.{urban, rural, motorway}
 use Rattle.base.specs.Words.{pick}
 use Rattle.base.specs.declared.Fault.{Fault}
-use Rattle.second.specs.Bins.{urban, rural, motorway}
 use Rattle.second.specs.Lanes.{Lanes}
 use Rattle.windows.specs.Counts.{noCount}
 use Rattle.tally.specs.declared.Counts.{Counts}
@@ -19,7 +19,7 @@ use Rattle.climb.specs.Climb.{climbOf}
 use Rattle.climb.specs.Ends.{endsApart}
 use Rattle.reasons.specs.declared.Part.{Part}
 use Rattle.reasons.specs.declared.Figures.{Figures}
-use Rattle.reasons.specs.Verdict as reasons
+use Rattle.verdict.specs.Verdict as verdicts
 use Rattle.found.specs.declared.Found.{Found}
 use Rattle.found.specs.Found.{foundOf}
 use Rattle.bins.specs.declared.Bin.{Bin}
@@ -93,7 +93,7 @@ figuresIn states speeds altitudes found bins =
 unfoldable pub concluded : List ℕ → List ℕ → List ℤ → Found → Bins → Evaluated
 concluded states speeds altitudes found bins =
     let figures = figuresIn states speeds altitudes found bins in
-    answerFrom figures (reasons.verdict figures) found bins
+    answerFrom figures (verdicts.verdict figures) found bins
 
 module _ (plan : Plan) (trip : Lanes) where
   -- the windows and the bins of a trip

@@ -27,7 +27,7 @@ pub fn conclude(
     let climbed = climb::climb(states, speeds, altitudes);
     let apart = climb::ends_apart(states, altitudes);
     let figures = figures_from(states.len() as u32, counts, climbed, apart, found, bins);
-    let verdict = reasons::judge(figures);
+    let verdict = verdict::judge(figures);
     answer_from(figures, verdict, found, bins)
 }
 
@@ -66,9 +66,9 @@ fn figures_from(
 fn parts_of(bins: [Bin; 3]) -> [Part; 3]
     ensures { λ r. ⌜ r ≡ partsOf bins ⌝ }
 {
-    let urban = bins[second::URBAN];
-    let rural = bins[second::RURAL];
-    let motorway = bins[second::MOTORWAY];
+    let urban = bins[base::road::URBAN];
+    let rural = bins[base::road::RURAL];
+    let motorway = bins[base::road::MOTORWAY];
     [part_of(urban), part_of(rural), part_of(motorway)]
 }
 

@@ -25,46 +25,25 @@ pub fn fault_of(
     ensures { λ r. ⌜ r ≡ tripFault plan (lanesOf (now (states .entry)) (now (speeds .entry)) (now (altitudes .entry)) (now (co2 .entry)) (now (nox .entry))) rooms ⌝ }
 {
     if !base::plan_in_range(plan) {
-        return Fault {
-            number: base::refusal::PLAN_OUT_OF_RANGE,
-            place: 0,
-        };
+        return base::fault_at(base::refusal::PLAN_OUT_OF_RANGE, 0);
     }
     if !second::lanes_agree(states, speeds, altitudes, co2, nox) {
-        return Fault {
-            number: base::refusal::LANES_DIFFER,
-            place: 0,
-        };
+        return base::fault_at(base::refusal::LANES_DIFFER, 0);
     }
     if base::too_many(states.len()) {
-        return Fault {
-            number: base::refusal::TOO_MANY,
-            place: 0,
-        };
+        return base::fault_at(base::refusal::TOO_MANY, 0);
     }
     if too_short(rooms, states.len()) {
-        return Fault {
-            number: base::refusal::LANE_TOO_SHORT,
-            place: 0,
-        };
+        return base::fault_at(base::refusal::LANE_TOO_SHORT, 0);
     }
     let bad = second::first_bad(states, speeds, altitudes, co2, nox);
     if bad < states.len() {
-        return Fault {
-            number: base::refusal::OUT_OF_RANGE,
-            place: bad,
-        };
+        return base::fault_at(base::refusal::OUT_OF_RANGE, bad);
     }
     if second::none_has_values(states) {
-        return Fault {
-            number: base::refusal::NO_SECOND,
-            place: 0,
-        };
+        return base::fault_at(base::refusal::NO_SECOND, 0);
     }
-    Fault {
-        number: base::refusal::ACCEPTED,
-        place: 0,
-    }
+    base::fault_at(base::refusal::ACCEPTED, 0)
 }
 
 // Whether a lent lane has no place for one of n seconds.

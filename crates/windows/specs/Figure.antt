@@ -6,6 +6,7 @@ use lib.Dec.{leb, ltb, eqb}
 use lib.IntN.{ℤ, pos, negsuc, _+ℤ_, _-ℤ_, _*ℤ_}
 use lib.Signed.{leZ}
 use Rattle.base.specs.declared.Plan.{Plan}
+use Rattle.base.specs.Roads.{urban, rural, motorway}
 use Rattle.base.specs.Words.{pick}
 use Rattle.windows.specs.declared.Figure.{Figure}
 
@@ -13,16 +14,7 @@ use Rattle.windows.specs.declared.Figure.{Figure}
 abbrev pub meanSpeed : ℕ → ℕ → ℕ
 meanSpeed s n = 10 * s / n
 
--- the classes, by number
-abbrev pub urban : ℕ
-urban = 0
-
-abbrev pub rural : ℕ
-rural = 1
-
-abbrev pub motorway : ℕ
-motorway = 2
-
+-- beside the three classes, the number of a window that has none
 abbrev pub unclassed : ℕ
 unclassed = 3
 

@@ -14,13 +14,7 @@ ghost use Rattle.windows.specs.Figure.{classOf, lineAt, curve, inBand, u
 ghost use Rattle.windows.specs.Counts.{withWindow, countsOf};
 ghost use Rattle.windows.specs.Inside.{raisedBy, LineGiven, Judgeable, KeptSpeeds, WindowSeconds, SweptLanes};
 
-// The classes by number; each indexes the counts.
-pub const URBAN: usize = 0;
-
-pub const RURAL: usize = 1;
-
-pub const MOTORWAY: usize = 2;
-
+// Beside the three classes, the number of a window that has none; each indexes the counts.
 pub const UNCLASSED: usize = 3;
 
 // A window judged.
@@ -95,13 +89,13 @@ fn class_of(v: u64) -> usize
     ensures { λ r. ⌜ r ≡ classOf v ⌝ }
 {
     if v < 45_000 {
-        return URBAN;
+        return base::road::URBAN;
     }
     if v < 80_000 {
-        return RURAL;
+        return base::road::RURAL;
     }
     if v < 145_000 {
-        return MOTORWAY;
+        return base::road::MOTORWAY;
     }
     UNCLASSED
 }
@@ -110,10 +104,10 @@ fn class_of(v: u64) -> usize
 fn upper_of(plan: Plan, class: usize) -> u8
     ensures { λ r. ⌜ r ≡ upperOf plan class ⌝ }
 {
-    if class == URBAN {
+    if class == base::road::URBAN {
         return plan.urban;
     }
-    if class == RURAL {
+    if class == base::road::RURAL {
         return plan.rural;
     }
     plan.motorway

@@ -27,45 +27,60 @@ all-good c = rw (sym (c .before .first-bad .ensures)) (le-ltb _ _ (c .if3 .left)
 lanes-agree-requires : tie.Need-lanes-agree-requires
 lanes-agree-requires c κs = search needs
 
+fault-at-requires : tie.Need-fault-at-requires
+fault-at-requires c κs = search needs
+
 returns : tie.Need-returns
 unfolding faultOf
-returns c = rw (sym (c .before .lanes-agree .ensures) ∙ not-true (c .before .lanes-agree .result) (c .if1 .taken)) refl
+returns c = c .fault-at .ensures ∙ rw (sym (c .before .before .lanes-agree .ensures) ∙ not-true (c .before .before .lanes-agree .result) (c .before .if1 .taken)) refl
 
 too-many-requires : tie.Need-too-many-requires
 too-many-requires c κs = search needs
 
+fault-at-requires-2 : tie.Need-fault-at-requires-2
+fault-at-requires-2 c κs = search needs
+
 returns-2 : tie.Need-returns-2
 unfolding faultOf
-returns-2 c = rw (agrees (c .before .before), sym (c .before .too-many .ensures) ∙ c .if2 .taken) refl
+returns-2 c = c .fault-at2 .ensures ∙ rw (agrees (c .before .before .before), sym (c .before .before .too-many .ensures) ∙ c .before .if2 .taken) refl
 
 first-bad-requires : tie.Need-first-bad-requires
 first-bad-requires c κs = agree _ (agrees (c .before .before))
 
+fault-at-requires-3 : tie.Need-fault-at-requires-3
+fault-at-requires-3 c κs = search needs
+
 returns-3 : tie.Need-returns-3
 unfolding faultOf
-returns-3 c = rw (agrees (c .before .before .before .before), few (c .before .before), sym (c .before .first-bad .ensures), lt-ltb _ _ (c .if3 .taken)) refl
+returns-3 c = c .fault-at3 .ensures ∙ rw (agrees (c .before .before .before .before .before), few (c .before .before .before), sym (c .before .before .first-bad .ensures), lt-ltb _ _ (c .before .if3 .taken)) refl
 
 none-has-values-requires : tie.Need-none-has-values-requires
 none-has-values-requires c κs = search needs
 
+fault-at-requires-4 : tie.Need-fault-at-requires-4
+fault-at-requires-4 c κs = search needs
+
 returns-4 : tie.Need-returns-4
 unfolding faultOf
-returns-4 c = rw (agrees (c .before .before .before .before .before .before), few (c .before .before .before .before), all-good (c .before .before), sym (c .before .none-has-values .ensures), c .if4 .taken) refl
+returns-4 c = c .fault-at4 .ensures ∙ rw (agrees (c .before .before .before .before .before .before .before), few (c .before .before .before .before .before), all-good (c .before .before .before), sym (c .before .before .none-has-values .ensures), c .before .if4 .taken) refl
+
+fault-at-requires-5 : tie.Need-fault-at-requires-5
+fault-at-requires-5 c κs = search needs
 
 returns-5 : tie.Need-returns-5
 unfolding faultOf
-returns-5 c = rw (agrees (c .before .before .before .before .before .before), few (c .before .before .before .before), all-good (c .before .before), sym (c .before .none-has-values .ensures), c .if4 .left) refl
+returns-5 c = c .fault-at5 .ensures ∙ rw (agrees (c .before .before .before .before .before .before .before), few (c .before .before .before .before .before), all-good (c .before .before .before), sym (c .before .before .none-has-values .ensures), c .before .if4 .left) refl
 
 pub fault-of-spec : {M : Type 1} → statement M
 fault-of-spec =
     tie.close
     (tie.spec
     lanes-agree-requires
-    returns
+    fault-at-requires returns
     too-many-requires
-    returns-2
+    fault-at-requires-2 returns-2
     first-bad-requires
-    returns-3
+    fault-at-requires-3 returns-3
     none-has-values-requires
-    returns-4
-    returns-5)
+    fault-at-requires-4 returns-4
+    fault-at-requires-5 returns-5)

@@ -1,8 +1,7 @@
 -- `dynamics::dynamics_from` meets its contract: what the call leaves of the part is put back in its place. Assumes nothing.
 use borrow.Author.Needs.{needs}
 use lib.ListN.{length}
-use Rattle.rank.specs.Sort.{sort}
-use Rattle.rank.proofs.Laws.{sort-length}
+use Rattle.order.specs.Sort.{sort}
 use Rattle.acceleration.specs.Products.{productsOf}
 use Rattle.dynamics.proofs.Places.{part-room, part-back}
 use Rattle.dynamics.proofs.dynamics_from.Statement.{statement}
@@ -32,7 +31,7 @@ returns : tie.Need-returns
 returns c =
     let s = c .before .before .before .before .before .before .before in
     let products = productsOf (s .args .bin) (s .args .states .now) (s .args .speeds .now) in
-    (c .before .before .bin-dynamics .ensures .0, part-back (s .args .lane .now) (s .args .from) (sort products) (length products) (sort-length products) (c .before .before .bin-dynamics .ensures .1))
+    (c .before .before .bin-dynamics .ensures .0, part-back (s .args .lane .now) (s .args .from) (sort products) (c .before .before .bin-dynamics .ensures .1))
 
 pub dynamics-from-spec : {M : Type 1} → statement M
 dynamics-from-spec =

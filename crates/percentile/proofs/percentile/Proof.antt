@@ -5,11 +5,11 @@ use mathlib.Core.Path.{_≡_, sym, _∙_, ap, ap₂}
 use mathlib.Core.List.{List, _++_}
 use lib.ListN.{length}
 use native.Mathlib.Omega.{arith}
-use Rattle.rank.specs.Sort.{sort}
+use Rattle.order.specs.Sort.{sort}
 use Rattle.percentile.specs.declared.Answer.the-variants.{Q}
 use Rattle.percentile.specs.Percentile.{faultOf, qOrZero}
 use Rattle.percentile.proofs.Refusals.{Accepted, accepted-facts, answer-refused, lane-refused, answer-accepted, lane-accepted}
-use Rattle.percentile.proofs.Front.{enough, filled-length, filled-front, filled-rest}
+use Rattle.percentile.proofs.Front.{enough, filled-length, filled-front, filled-rest, ranked-front}
 use Rattle.percentile.proofs.percentile.Statement.{statement}
 use Rattle.percentile.proofs.percentile.Tie as tie
 
@@ -51,7 +51,7 @@ returns-2 c =
     let front = filled-front (a .values .now) (a .ranks .now) (k .room) is in
     let rest = filled-rest (a .values .now) (a .ranks .now) (k .room) is in
     let q = c .before .before .rank-first .ensures .0 ∙ ap qOrZero front ∙ enough (a .values .now) (k .enough) in
-    let lane = c .before .before .rank-first .ensures .1 ∙ ap₂ (λ (f r : List _). sort f ++ r) front rest in
+    let lane = c .before .before .rank-first .ensures .1 ∙ ap₂ (λ (f r : List _). sort f ++ r) front rest ∙ ranked-front (a .values .now) (a .ranks .now) in
     (ap Q q ∙ sym (answer-accepted (a .values .now) (a .ranks .now) (number (c .before .before .before .before .before .before .before .before))), lane ∙ sym (lane-accepted (a .values .now) (a .ranks .now) (number (c .before .before .before .before .before .before .before .before))))
 
 pub percentile-spec : {M : Type 1} → statement M

@@ -1,7 +1,7 @@
 -- `sweep::refusal_of` meets its contract: each return is an outcome of the definition (`proofs/Refusals.antt`). Assumes nothing.
 use Prim.Native.Nat.{_≤_}
 use mathlib.Core.Path.{_≡_, sym, _∙_}
-use mathlib.Core.Bool.{true}
+use mathlib.Core.Bool.{true, and-eq-true-iff}
 use lib.Dec.{leb}
 use lib.ListN.{length}
 use borrow.Author.Tests.{leb-true, leb-false, ltb-true, ltb-false, not-true, not-false}
@@ -9,7 +9,6 @@ use Rattle.base.specs.Limits.{tripLimit, referenceMost}
 use Rattle.base.specs.Plan.{referenceInRange}
 use Rattle.sweep.specs.Sweep.{firstOutOfRange}
 use Rattle.sweep.specs.Outcomes.{Outcome}
-use Rattle.sweep.proofs.Reached.{both}
 use Rattle.sweep.proofs.Refusals.{gives, measured}
 use borrow.Author.Needs.{needs}
 use Rattle.sweep.proofs.refusal_of.Statement.{statement}
@@ -50,7 +49,7 @@ is-reached-requires : tie.Need-is-reached-requires
 is-reached-requires c κs =
     let co2 = c .before .before .before .before .before .before .before .before .args .co2 .now in
     let reference = c .before .before .before .before .before .before .before .before .args .reference in
-    let in-range = both (leb 1 reference) (leb reference referenceMost) (reference-fine (c .before .before .before .before .before)) in
+    let in-range = and-eq-true-iff (leb 1 reference) (leb reference referenceMost) .0 (reference-fine (c .before .before .before .before .before)) in
     (leb-true 1 reference (in-range .0), measured co2 (few (c .before .before .before)) (light c))
 
 returns-5 : tie.Need-returns-5

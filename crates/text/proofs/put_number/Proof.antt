@@ -8,9 +8,10 @@ use native.Mathlib.Omega.{arith}
 use lib.ListN.{length, set, length-set}
 use lib.Seq.{sets}
 use borrow.Author.Needs.{needs}
+use Rattle.base.proofs.Store.{sets-append}
 use Rattle.text.specs.Text.{digit, decimal}
 use Rattle.text.proofs.Decimal.{decimal-one, decimal-more, length-one, length-more}
-use Rattle.text.proofs.Writing.{sets-append, sets-past}
+use Rattle.text.proofs.Writing.{sets-past}
 use Rattle.text.proofs.put_number.Statement.{statement}
 use Rattle.text.proofs.put_number.Tie as tie
 
@@ -25,7 +26,7 @@ last-first : (l : List ℕ) (at rest i : ℕ) → 10 ≤ rest → i ≡ at + len
 last-first l at rest i h e =
     let place : at + length (decimal (rest / 10)) ≡ i - 1 = omega (arith, length-more rest h) in
     ap (sets l at) (decimal-more rest h)
-    ∙ sets-append (decimal (rest / 10)) (digit (rest % 10) ∷ []) l at
+    ∙ sym (sets-append l at (decimal (rest / 10)) (digit (rest % 10) ∷ []))
     ∙ sym (sets-past (decimal (rest / 10)) l at (at + length (decimal (rest / 10))) (digit (rest % 10)) (le-refl _))
     ∙ ap (λ (k : ℕ). sets (set l k (digit (rest % 10))) at (decimal (rest / 10))) place
 

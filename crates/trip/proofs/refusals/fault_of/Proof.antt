@@ -36,58 +36,79 @@ all-good c = rw (sym (c .before .first-bad .ensures)) (le-ltb _ _ (c .if5 .left)
 plan-in-range-requires : tie.Need-plan-in-range-requires
 plan-in-range-requires c κs = search needs
 
+fault-at-requires : tie.Need-fault-at-requires
+fault-at-requires c κs = search needs
+
 returns : tie.Need-returns
-returns c = sym (gives-plan _ _ _ (sym (c .before .plan-in-range .ensures) ∙ not-true _ (c .if1 .taken)))
+returns c = c .fault-at .ensures ∙ sym (gives-plan _ _ _ (sym (c .before .before .plan-in-range .ensures) ∙ not-true _ (c .before .if1 .taken)))
 
 lanes-agree-requires : tie.Need-lanes-agree-requires
 lanes-agree-requires c κs = search needs
 
+fault-at-requires-2 : tie.Need-fault-at-requires-2
+fault-at-requires-2 c κs = search needs
+
 returns-2 : tie.Need-returns-2
-returns-2 c = sym (gives-differ _ _ _ (ranged (c .before .before)) (sym (c .before .lanes-agree .ensures) ∙ not-true _ (c .if2 .taken)))
+returns-2 c = c .fault-at2 .ensures ∙ sym (gives-differ _ _ _ (ranged (c .before .before .before)) (sym (c .before .before .lanes-agree .ensures) ∙ not-true _ (c .before .if2 .taken)))
 
 too-many-requires : tie.Need-too-many-requires
 too-many-requires c κs = search needs
 
+fault-at-requires-3 : tie.Need-fault-at-requires-3
+fault-at-requires-3 c κs = search needs
+
 returns-3 : tie.Need-returns-3
-returns-3 c = sym (gives-many _ _ _ (ranged (c .before .before .before .before)) (agrees (c .before .before)) (sym (c .before .too-many .ensures) ∙ c .if3 .taken))
+returns-3 c = c .fault-at3 .ensures ∙ sym (gives-many _ _ _ (ranged (c .before .before .before .before .before)) (agrees (c .before .before .before)) (sym (c .before .before .too-many .ensures) ∙ c .before .if3 .taken))
 
 too-short-requires : tie.Need-too-short-requires
 too-short-requires c κs = search needs
 
+fault-at-requires-4 : tie.Need-fault-at-requires-4
+fault-at-requires-4 c κs = search needs
+
 returns-4 : tie.Need-returns-4
-returns-4 c = sym (gives-short _ _ _ (ranged (c .before .before .before .before .before .before)) (agrees (c .before .before .before .before)) (few (c .before .before)) (sym (c .before .too-short .ensures) ∙ c .if4 .taken))
+returns-4 c = c .fault-at4 .ensures ∙ sym (gives-short _ _ _ (ranged (c .before .before .before .before .before .before .before)) (agrees (c .before .before .before .before .before)) (few (c .before .before .before)) (sym (c .before .before .too-short .ensures) ∙ c .before .if4 .taken))
 
 first-bad-requires : tie.Need-first-bad-requires
 first-bad-requires c κs = agree _ (agrees (c .before .before .before .before))
 
+fault-at-requires-5 : tie.Need-fault-at-requires-5
+fault-at-requires-5 c κs = search needs
+
 returns-5 : tie.Need-returns-5
 returns-5 c =
-    ap (fault outOfRange) (c .before .first-bad .ensures)
-    ∙ sym (gives-bad _ _ _ (ranged (c .before .before .before .before .before .before .before .before)) (agrees (c .before .before .before .before .before .before)) (few (c .before .before .before .before)) (roomy (c .before .before)) (rw (sym (c .before .first-bad .ensures)) (lt-ltb _ _ (c .if5 .taken))))
+    c .fault-at5 .ensures ∙ ap (fault outOfRange) (c .before .before .first-bad .ensures)
+    ∙ sym (gives-bad _ _ _ (ranged (c .before .before .before .before .before .before .before .before .before)) (agrees (c .before .before .before .before .before .before .before)) (few (c .before .before .before .before .before)) (roomy (c .before .before .before)) (rw (sym (c .before .before .first-bad .ensures)) (lt-ltb _ _ (c .before .if5 .taken))))
 
 none-has-values-requires : tie.Need-none-has-values-requires
 none-has-values-requires c κs = search needs
 
+fault-at-requires-6 : tie.Need-fault-at-requires-6
+fault-at-requires-6 c κs = search needs
+
 returns-6 : tie.Need-returns-6
-returns-6 c = sym (gives-none _ _ _ (ranged (c .before .before .before .before .before .before .before .before .before .before)) (agrees (c .before .before .before .before .before .before .before .before)) (few (c .before .before .before .before .before .before)) (roomy (c .before .before .before .before)) (all-good (c .before .before)) (sym (c .before .none-has-values .ensures) ∙ c .if6 .taken))
+returns-6 c = c .fault-at6 .ensures ∙ sym (gives-none _ _ _ (ranged (c .before .before .before .before .before .before .before .before .before .before .before)) (agrees (c .before .before .before .before .before .before .before .before .before)) (few (c .before .before .before .before .before .before .before)) (roomy (c .before .before .before .before .before)) (all-good (c .before .before .before)) (sym (c .before .before .none-has-values .ensures) ∙ c .before .if6 .taken))
+
+fault-at-requires-7 : tie.Need-fault-at-requires-7
+fault-at-requires-7 c κs = search needs
 
 returns-7 : tie.Need-returns-7
-returns-7 c = sym (gives-accepted _ _ _ (ranged (c .before .before .before .before .before .before .before .before .before .before)) (agrees (c .before .before .before .before .before .before .before .before)) (few (c .before .before .before .before .before .before)) (roomy (c .before .before .before .before)) (all-good (c .before .before)) (sym (c .before .none-has-values .ensures) ∙ c .if6 .left))
+returns-7 c = c .fault-at7 .ensures ∙ sym (gives-accepted _ _ _ (ranged (c .before .before .before .before .before .before .before .before .before .before .before)) (agrees (c .before .before .before .before .before .before .before .before .before)) (few (c .before .before .before .before .before .before .before)) (roomy (c .before .before .before .before .before)) (all-good (c .before .before .before)) (sym (c .before .before .none-has-values .ensures) ∙ c .before .if6 .left))
 
 pub fault-of-spec : {M : Type 1} → statement M
 fault-of-spec =
     tie.close
     (tie.spec
     plan-in-range-requires
-    returns
+    fault-at-requires returns
     lanes-agree-requires
-    returns-2
+    fault-at-requires-2 returns-2
     too-many-requires
-    returns-3
+    fault-at-requires-3 returns-3
     too-short-requires
-    returns-4
+    fault-at-requires-4 returns-4
     first-bad-requires
-    returns-5
+    fault-at-requires-5 returns-5
     none-has-values-requires
-    returns-6
-    returns-7)
+    fault-at-requires-6 returns-6
+    fault-at-requires-7 returns-7)

@@ -1,0 +1,11 @@
+-- Urban, rural, motorway, by number: a second has one of them as its bin, by its speed; a window as its class, by its mean speed.
+use Prim.Native.Nat.{ℕ}
+
+abbrev pub urban : ℕ
+urban = 0
+
+abbrev pub rural : ℕ
+rural = 1
+
+abbrev pub motorway : ℕ
+motorway = 2

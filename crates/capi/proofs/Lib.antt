@@ -1,2 +1,0 @@
--- The laws of what crosses to C.
-pub mod Crossing

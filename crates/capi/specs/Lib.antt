@@ -1,4 +1,0 @@
--- How the library's answers cross to C.
-pub mod Concentration
-pub mod Streams
-pub mod Accelerations

@@ -1,0 +1,2 @@
+-- The laws of what crosses to C.
+mod Readings

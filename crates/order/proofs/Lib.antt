@@ -1,0 +1,4 @@
+-- The laws of the sorted list.
+pub mod Laws
+pub mod Cases
+pub mod Exchange

@@ -1,0 +1,9 @@
+-- The laws of a reader that is fed block by block.
+pub mod Carry
+pub mod Feeding
+pub mod Making
+pub mod Reaching
+pub mod Reached
+pub mod Whole
+pub mod Testing
+pub mod Ending

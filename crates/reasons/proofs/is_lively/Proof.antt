@@ -1,0 +1,14 @@
+-- `reasons::is_lively` meets its contract: its tests are those of the definition. Assumes nothing.
+use borrow.Author.Needs.{needs}
+use mathlib.Core.Path.{refl}
+use Rattle.reasons.proofs.is_lively.Statement.{statement}
+use Rattle.reasons.proofs.is_lively.Tie as tie
+
+too-lively-requires : tie.Need-too-lively-requires
+too-lively-requires c κs = search needs
+
+returns : tie.Need-returns
+returns c = rw (c .too-lively .ensures) refl
+
+pub is-lively-spec : {M : Type 1} → statement M
+is-lively-spec = tie.close (tie.spec too-lively-requires returns)

@@ -1,0 +1,4 @@
+-- The laws of the verdict.
+pub mod Masks
+pub mod Bits
+pub mod Laws

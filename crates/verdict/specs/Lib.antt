@@ -1,0 +1,2 @@
+-- The definition of the verdict.
+pub mod Verdict
