@@ -13,7 +13,7 @@
 
 enum { TRIP = 8192, BLOCK = 4096 };
 
-/* The lanes of one trip, and those lent to its evaluation: 200 KiB that a unit sets aside once. */
+/* The lanes of one trip, and those lent to its evaluation: 216 KiB that a unit sets aside once. */
 static uint8_t states[TRIP];
 static uint16_t speeds[TRIP], kept_speeds[TRIP], ends[TRIP];
 static int32_t altitudes[TRIP];

@@ -9,7 +9,7 @@ pub mod road;
 pub mod state;
 
 ghost use mathlib.Core.Path.{_≡_};
-ghost use Prim.Native.Nat.{_<_};
+ghost use Prim.Native.Nat.{_<_, min};
 ghost use lib.IntN.{pos};
 ghost use lib.ListN.{length, getD};
 ghost use Rattle.base.specs.Second.{tooMany, stateKnown, speedInRange, altitudeCode, co2InRange, noxInRange};
@@ -127,4 +127,11 @@ pub fn nox_in_range(nox: u32) -> bool
     ensures { λ r. ⌜ r ≡ noxInRange nox ⌝ }
 {
     nox <= limits::NOX
+}
+
+// The lesser of two numbers of places.
+pub fn least(a: usize, b: usize) -> usize
+    ensures { λ r. ⌜ r ≡ min a b ⌝ }
+{
+    if a <= b { a } else { b }
 }

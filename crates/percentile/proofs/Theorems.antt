@@ -20,7 +20,7 @@ use Rattle.percentile.specs.declared.Answer.{Answer}
 use Rattle.percentile.specs.declared.Answer.the-variants.{Q, Refused}
 use Rattle.percentile.specs.Percentile.{fewest, qOf, firstBadProduct, faultOf, answerOf, laneOf, refusalOf, placeOf, valueOf}
 use Rattle.percentile.specs.Outcomes.{Outcome, too-many, too-few, too-short, out-of-range, fine}
-use Rattle.percentile.proofs.Refusals.{accepted-facts, lane-refused, lane-accepted}
+use Rattle.percentile.proofs.Refusals.{accepted-facts, lane-accepted}
 
 module _ (values : List ℕ) (places : ℕ) where
   -- one of them holds, with the fault that is given
@@ -74,10 +74,6 @@ pub accepted-writes : (values lane : List ℕ) → faultOf values (length lane) 
 accepted-writes values lane z =
     let facts = accepted-facts values (length lane) z in
     rw (lane-accepted values lane z) (in-front (sort values) lane (length values) (sort-length values) (facts .room))
-
--- a refusal writes nothing
-pub nothing-written : (values lane : List ℕ) → (faultOf values (length lane) .number ≡ 0 → ⊥) → laneOf values lane ≡ lane
-nothing-written values lane refused = lane-refused values lane refused
 
 -- a refusal has no Q
 pub refused-no-q : (answer : Answer) → (refusalOf answer ≡ 0 → ⊥) → valueOf answer ≡ 0

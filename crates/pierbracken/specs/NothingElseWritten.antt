@@ -8,6 +8,7 @@ use Rattle.base.specs.InFront.{InFront, StoredFrom}
 use Rattle.second.specs.Lanes.{Lanes}
 use Rattle.stream.specs.declared.Row.{Row}
 use Rattle.stream.specs.Reading.{readOf, secondsOf, laneAfter}
+use Rattle.stream.proofs.Lanes as stream-lanes
 use Rattle.stream.proofs.Theorems as stream
 use Rattle.reader.specs.declared.Reader.{Reader}
 use Rattle.reader.specs.Blocks.{secondsAdded}
@@ -19,12 +20,14 @@ use Rattle.sweep.specs.Runs.{Written}
 use Rattle.sweep.proofs.Theorems as sweep
 use Rattle.order.specs.Sort.{sort}
 use Rattle.percentile.specs.Percentile.{faultOf, laneOf}
+use Rattle.percentile.proofs.Refusals as percentile-refusals
 use Rattle.percentile.proofs.Theorems as percentile
 use Rattle.trip.specs.Refusals.{roomsOf}
 use Rattle.trip.specs.Trip.{answerOf}
 use Rattle.trip.specs.Lent.{keptSpeedsLane, keptCo2Lane, endsLane, ranksLane, Leaves}
 use Rattle.trip.proofs.Written as trip
 use Rattle.report.specs.Lines.{bufferWritten}
+use Rattle.report.proofs.Fitting as fitting
 use Rattle.report.proofs.Theorems as report
 
 -- `InFront values n before after`: the lane has the n values in its first n places, and is otherwise as it was.
@@ -33,7 +36,7 @@ use Rattle.report.proofs.Theorems as report
 -- ---- the stream: `value` is what a lane holds of a second, `room` the places of the shortest lane
 module _ {ℓ} {A : Type ℓ} (value : Row → A) (room : ℕ) (bytes : List ℕ) (lane : List A) where
   pub stream-refused : (readOf room bytes .refusal ≡ 0 → ⊥) → laneAfter value room bytes lane ≡ lane
-  stream-refused = stream.refused-writes-nothing value room bytes lane
+  stream-refused = stream-lanes.lane-refused value room bytes lane
 
   -- "touches no place beyond the seconds read"
   pub stream-accepted : readOf room bytes .refusal ≡ 0 → room ≤ length lane → InFront (map value (secondsOf room bytes)) (readOf room bytes .seconds) lane (laneAfter value room bytes lane)
@@ -58,7 +61,7 @@ module _ (reference : ℕ) (co2 ends : List ℕ) (state : SweepState) (budget : 
 -- ---- the percentile: "ranks them into a lent lane with a place for each"
 module _ (values lane : List ℕ) where
   pub percentile-refused : (faultOf values (length lane) .number ≡ 0 → ⊥) → laneOf values lane ≡ lane
-  percentile-refused = percentile.nothing-written values lane
+  percentile-refused = percentile-refusals.lane-refused values lane
 
   pub percentile-accepted : faultOf values (length lane) .number ≡ 0 → InFront (sort values) (length values) lane (laneOf values lane)
   percentile-accepted = percentile.accepted-writes values lane
@@ -74,7 +77,7 @@ module _ (plan : Plan) (lanes : Lanes) (speeds co2 ends ranks : List ℕ) where
 -- ---- the printed lines: a text that does not fit changes nothing, one that fits only its own places
 module _ (text buffer : List ℕ) where
   pub text-short : length buffer < length text → bufferWritten text buffer ≡ buffer
-  text-short = report.nothing-written text buffer
+  text-short = fitting.short-buffer text buffer
 
   pub text-fits : length text ≤ length buffer → InFront text (length text) buffer (bufferWritten text buffer)
   text-fits = report.text-written text buffer

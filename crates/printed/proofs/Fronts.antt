@@ -1,11 +1,15 @@
 -- The first seconds of the lanes, whatever their lengths. Assumes nothing.
-use Prim.Native.Nat.{ℕ, zero, suc, min}
+use Prim.Native.Nat.{ℕ, zero, suc, min, _≤_}
 use mathlib.Core.Path.{_≡_, refl, _∙_, ap}
 use mathlib.Core.List.{List, [], _∷_}
-use native.Mathlib.Nat.{zero-min, min-zero, suc-min-suc}
+use native.Mathlib.Nat.{zero-min, min-zero, min-le-right, suc-min-suc}
 use lib.ListN.{length, take}
 use Rattle.second.specs.Lanes.{Lanes, lanesOf}
 use Rattle.printed.specs.Printed.{firstSeconds}
+
+-- the lesser of two numbers is within the second
+pub within : (a b : ℕ) {r : ℕ} → r ≡ min a b → r ≤ b
+within a b e = rw e (min-le-right a b)
 
 -- a lane has no places behind its last
 pub first-places {ℓ} : {A : Type ℓ} (n : ℕ) (lane : List A) → take (min n (length lane)) lane ≡ take n lane

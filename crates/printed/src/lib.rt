@@ -9,7 +9,7 @@ use stream::ReadAnswer;
 use trip::Evaluated;
 use windows::ClassCount;
 ghost use mathlib.Core.Path.{_≡_};
-ghost use Prim.Native.Nat.{min, _≤_};
+ghost use Prim.Native.Nat.{_≤_};
 ghost use lib.ListN.{length};
 ghost use Rattle.second.specs.Lanes.{lanesOf};
 ghost use Rattle.report.specs.Lines.{lengthWritten, bufferWritten, longestText};
@@ -86,11 +86,11 @@ fn judge_first(
     ensures { λ r. ⌜ now (ends .exit) ≡ endsLane plan (firstSeconds seconds (lanesOf (now (states .entry)) (now (speeds .entry)) (now (altitudes .entry)) (now (co2 .entry)) (now (nox .entry)))) (roomsOf (now («kept_speeds» .entry)) (now («kept_co2» .entry)) (now (ends .entry)) (now (ranks .entry))) (now (ends .entry)) ⌝ }
     ensures { λ r. ⌜ now (ranks .exit) ≡ ranksLane plan (firstSeconds seconds (lanesOf (now (states .entry)) (now (speeds .entry)) (now (altitudes .entry)) (now (co2 .entry)) (now (nox .entry)))) (roomsOf (now («kept_speeds» .entry)) (now («kept_co2» .entry)) (now (ends .entry)) (now (ranks .entry))) (now (ranks .entry)) ⌝ }
 {
-    let in_states = least(seconds, states.len());
-    let in_speeds = least(seconds, speeds.len());
-    let in_altitudes = least(seconds, altitudes.len());
-    let in_co2 = least(seconds, co2.len());
-    let in_nox = least(seconds, nox.len());
+    let in_states = base::least(seconds, states.len());
+    let in_speeds = base::least(seconds, speeds.len());
+    let in_altitudes = base::least(seconds, altitudes.len());
+    let in_co2 = base::least(seconds, co2.len());
+    let in_nox = base::least(seconds, nox.len());
     trip::evaluate(
         plan,
         &states[..in_states],
@@ -103,13 +103,6 @@ fn judge_first(
         ends,
         ranks,
     )
-}
-
-// The lesser of two numbers.
-fn least(a: usize, b: usize) -> usize
-    ensures { λ r. ⌜ (r ≡ min a b) × (r ≤ b) ⌝ }
-{
-    if a <= b { a } else { b }
 }
 
 // Writes what is printed of a trip's answer.

@@ -12,7 +12,7 @@ use Rattle.report.specs.declared.Judged.{Judged}
 use Rattle.text.specs.Text.{bytes, digit, decimalUpTo, decimal, hex}
 use Rattle.report.specs.Lines.{countLines, classLines, reasonsLine, judgedText, refusalText, lengthWritten, bufferWritten, longestText}
 use Rattle.report.proofs.Lengths.{Words, judged-length, refusal-length, judged-longest, refusal-longest}
-use Rattle.report.proofs.Fitting.{fits-length, fits-buffer, short-buffer, zero-says-short}
+use Rattle.report.proofs.Fitting.{fits-length, fits-buffer, zero-says-short}
 
 -- the numbers of the printed case
 pub printedCase : Judged
@@ -51,9 +51,6 @@ judged-zero t buffer = zero-says-short (judgedText t) buffer (omega (arith, judg
 pub refusal-zero : (number place : ℕ) (buffer : List ℕ) → lengthWritten (refusalText number place) buffer ≡ 0 → length buffer < length (refusalText number place)
 refusal-zero number place buffer = zero-says-short (refusalText number place) buffer (omega (arith, refusal-length number place))
 
--- a text that fits stands in the first places and changes no other; one that does not fit changes nothing
+-- a text that fits stands in the first places and changes no other; that one that does not fit changes nothing is `short-buffer`
 pub text-written : (text buffer : List ℕ) → length text ≤ length buffer → InFront text (length text) buffer (bufferWritten text buffer)
 text-written text buffer fits = rw (fits-buffer text buffer fits) (in-front text buffer (length text) refl fits)
-
-pub nothing-written : (text buffer : List ℕ) → length buffer < length text → bufferWritten text buffer ≡ buffer
-nothing-written text buffer short = short-buffer text buffer short

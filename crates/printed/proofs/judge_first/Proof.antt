@@ -11,7 +11,7 @@ use Rattle.trip.specs.declared.Rooms.{Rooms}
 use Rattle.trip.specs.Refusals.{roomsOf}
 use Rattle.trip.specs.Trip.{answerOf}
 use Rattle.trip.specs.Lent.{keptSpeedsLane, keptCo2Lane, endsLane, ranksLane}
-use Rattle.printed.proofs.Fronts.{first-seconds}
+use Rattle.printed.proofs.Fronts.{within, first-seconds}
 use Rattle.printed.proofs.judge_first.Statement.{statement}
 use Rattle.printed.proofs.judge_first.Tie as tie
 
@@ -40,19 +40,19 @@ least-requires-5 : tie.Need-least-requires-5
 least-requires-5 c κs = search needs
 
 slice-aggregate-evaluate : tie.Need-slice-aggregate-evaluate
-slice-aggregate-evaluate c = sym (length-take-le _ _ (c .before .before .before .before .before .least .ensures .1))
+slice-aggregate-evaluate c = sym (length-take-le _ _ (within _ _ (c .before .before .before .before .before .least .ensures)))
 
 slice-aggregate-evaluate-2 : tie.Need-slice-aggregate-evaluate-2
-slice-aggregate-evaluate-2 c = sym (length-take-le _ _ (c .before .before .before .before .before .least2 .ensures .1))
+slice-aggregate-evaluate-2 c = sym (length-take-le _ _ (within _ _ (c .before .before .before .before .before .least2 .ensures)))
 
 slice-aggregate-evaluate-3 : tie.Need-slice-aggregate-evaluate-3
-slice-aggregate-evaluate-3 c = sym (length-take-le _ _ (c .before .before .before .before .before .least3 .ensures .1))
+slice-aggregate-evaluate-3 c = sym (length-take-le _ _ (within _ _ (c .before .before .before .before .before .least3 .ensures)))
 
 slice-aggregate-evaluate-4 : tie.Need-slice-aggregate-evaluate-4
-slice-aggregate-evaluate-4 c = sym (length-take-le _ _ (c .before .before .before .before .before .least4 .ensures .1))
+slice-aggregate-evaluate-4 c = sym (length-take-le _ _ (within _ _ (c .before .before .before .before .before .least4 .ensures)))
 
 slice-aggregate-evaluate-5 : tie.Need-slice-aggregate-evaluate-5
-slice-aggregate-evaluate-5 c = sym (length-take-le _ _ (c .before .before .before .before .before .least5 .ensures .1))
+slice-aggregate-evaluate-5 c = sym (length-take-le _ _ (within _ _ (c .before .before .before .before .before .least5 .ensures)))
 
 evaluate-requires : tie.Need-evaluate-requires
 evaluate-requires c κs = search needs
@@ -73,7 +73,7 @@ returns : tie.Need-returns
 returns c =
     let a = c .before .before .before .before .before .before .before .before .before .before .before .before .before .before .before .before .before .before .before .before .before .before .before .before .before .before .before .before .before .before .before .args in
     let left = c .before .before .before .before .before .before .before .before .evaluate .last .1 .1 .1 .1 .1 .1 in
-    let first = first-seconds (a .seconds) (lanesOf (a .states .now) (a .speeds .now) (a .altitudes .now) (a .co2 .now) (a .nox .now)) _ _ _ _ _ (c .before .before .before .before .before .before .before .before .before .before .before .before .before .before .before .before .before .before .before .before .before .before .least .ensures .0) (c .before .before .before .before .before .before .before .before .before .before .before .before .before .before .before .before .before .before .before .before .before .least2 .ensures .0) (c .before .before .before .before .before .before .before .before .before .before .before .before .before .before .before .before .before .before .before .before .least3 .ensures .0) (c .before .before .before .before .before .before .before .before .before .before .before .before .before .before .before .before .before .before .before .least4 .ensures .0) (c .before .before .before .before .before .before .before .before .before .before .before .before .before .before .before .before .before .before .least5 .ensures .0) in
+    let first = first-seconds (a .seconds) (lanesOf (a .states .now) (a .speeds .now) (a .altitudes .now) (a .co2 .now) (a .nox .now)) _ _ _ _ _ (c .before .before .before .before .before .before .before .before .before .before .before .before .before .before .before .before .before .before .before .before .before .before .least .ensures) (c .before .before .before .before .before .before .before .before .before .before .before .before .before .before .before .before .before .before .before .before .before .least2 .ensures) (c .before .before .before .before .before .before .before .before .before .before .before .before .before .before .before .before .before .before .before .before .least3 .ensures) (c .before .before .before .before .before .before .before .before .before .before .before .before .before .before .before .before .before .before .before .least4 .ensures) (c .before .before .before .before .before .before .before .before .before .before .before .before .before .before .before .before .before .before .least5 .ensures) in
     subst (Left (a .plan) (roomsOf (a .kept-speeds .now) (a .kept-co2 .now) (a .ends .now) (a .ranks .now)) (a .kept-speeds .now) (a .kept-co2 .now) (a .ends .now) (a .ranks .now) (c .before .before .before .before .before .before .before .before .evaluate .result) (left .0) (left .1 .0) (left .1 .1 .0) (left .1 .1 .1 .0)) first (c .before .before .before .before .before .before .before .before .evaluate .ensures)
 
 pub judge-first-spec : {M : Type 1} → statement M
