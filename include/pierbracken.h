@@ -40,7 +40,8 @@ enum {
 
 /*
  * The release of the meaning: the entry of docs/VALID.md by which this build answers. It changes
- * whenever a figure, a reason or a refusal does: store it beside a verdict.
+ * whenever a figure, a reason or a refusal does: store it beside a verdict. An earlier release still
+ * answers by the independent program (`make judge-as`).
  */
 uint32_t pb_meaning(void);
 
@@ -316,7 +317,11 @@ typedef struct pb_trip_answer {
     pb_tally total;
     uint64_t climb; /* cm */
     pb_class classes[3];
-    uint16_t verdict; /* a bit for each reason of docs/VALID.md; 0 says that the trip is valid */
+    /*
+     * A bit for each reason of docs/VALID.md; 0 says that the trip is valid. It speaks only where
+     * refusal is PB_ACCEPTED: a refused trip was not judged, and its verdict is 0 all the same.
+     */
+    uint16_t verdict;
 } pb_trip_answer;
 
 /*

@@ -1,7 +1,7 @@
 #!/bin/sh
 # tests/program.sh C_JUDGE: the examples by the program, by `make judge` and by examples/c/judge.c,
-# built as C_JUDGE; and the program on inputs that are empty, fail or do not end. The last line is
-# `N passed, M failed`.
+# built as C_JUDGE; a trip by an earlier release; and the program on inputs that are empty, fail or do
+# not end. The last line is `N passed, M failed`.
 cd "$(dirname "$0")/.." || exit 1
 judge=target/bin/judge
 c_judge=$1
@@ -34,6 +34,19 @@ for trip in examples/*.trip; do
     "$c_judge" "$trip" >"$room/said" 2>&1
     wants "$trip by examples/c/judge.c" "${trip%.trip}.expected"
 done
+
+make --no-print-directory judge-as RELEASE=1 TRIP=examples/printed.trip >"$room/said" 2>&1
+says "the printed case by release 1" "release 1 of the meaning, by the independent program:
+seconds 5 missing 0 kept 5
+windows 4 moves 9
+urban 4 0
+rural 0 0
+motorway 0 0
+reasons c86d"
+tools/judge-as 0 examples/printed.trip >"$room/said" 2>"$room/error"
+wants "a release that never was: nothing is printed" /dev/null
+tools/judge-as 1 "$room/none" >"$room/said" 2>"$room/error"
+wants "no such file, by release 1: nothing is printed" /dev/null
 
 "$judge" </dev/null >"$room/said" 2>&1
 says "an empty stream" "refused 11 at 0"

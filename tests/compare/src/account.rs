@@ -1,9 +1,15 @@
 //! What was compared, and what came of it.
 
+use oracle::Rules;
+
+use crate::case::{Answer, Case};
+
 /// Differences of one comparison that are printed; the rest are counted.
 const SHOWN: u64 = 5;
 
 pub struct Account {
+    /// The rules of the release by which the build says that it answers.
+    pub rules: Rules,
     pub seed: u64,
     passed: u64,
     failed: u64,
@@ -11,13 +17,15 @@ pub struct Account {
 
 /// One comparison under way.
 pub struct Comparison {
+    pub rules: Rules,
     inputs: u64,
     differences: u64,
 }
 
 impl Account {
-    pub fn new(seed: u64) -> Account {
+    pub fn new(rules: Rules, seed: u64) -> Account {
         Account {
+            rules,
             seed,
             passed: 0,
             failed: 0,
@@ -25,9 +33,10 @@ impl Account {
     }
 
     /// Runs a comparison and counts it as one test: passed where it tried something and nothing
-    /// differed.
-    pub fn compare(&mut self, name: &str, run: impl FnOnce(&mut Comparison)) {
+    /// differed. Says whether something differed.
+    pub fn compare(&mut self, name: &str, run: impl FnOnce(&mut Comparison)) -> bool {
         let mut comparison = Comparison {
+            rules: self.rules.clone(),
             inputs: 0,
             differences: 0,
         };
@@ -35,6 +44,7 @@ impl Account {
         let Comparison {
             inputs,
             differences,
+            ..
         } = comparison;
         println!(
             "{name}: {inputs} inputs, {differences} differences (seed {})",
@@ -45,6 +55,7 @@ impl Account {
         } else {
             self.failed += 1;
         }
+        differences > 0
     }
 
     /// Prints the closing line and gives the exit status.
@@ -54,7 +65,21 @@ impl Account {
     }
 }
 
+/// Characters of an input that are shown.
+const WIDTH: usize = 1_200;
+
 impl Comparison {
+    /// A call answered by both sides; gives the library's answer.
+    pub fn case(&mut self, case: &Case) -> Answer {
+        let got = case.by_library();
+        let wanted = case.by_paper(&self.rules);
+        self.same(&got, &wanted, || {
+            let shown = format!("{case:?}");
+            shown.chars().take(WIDTH).collect()
+        });
+        got
+    }
+
     /// Counts an input, and a difference where `got` is not `wanted`.
     pub fn same<T: PartialEq + std::fmt::Debug>(
         &mut self,

@@ -4,6 +4,7 @@ use library::{Fed, Reader};
 use oracle::stream as paper;
 
 use crate::account::{Account, Comparison};
+use crate::case::fed_to_library;
 use crate::lanes::{answer_by_paper, Lanes};
 use crate::random::Random;
 use crate::streams;
@@ -28,46 +29,22 @@ pub fn compare(account: &mut Account) {
 /// A stream in these blocks on both sides: the answer and every place of every lane.
 fn fed<'a>(
     comparison: &mut Comparison,
-    blocks: impl Iterator<Item = &'a [u8]>,
+    blocks: impl Iterator<Item = &'a [u8]> + Clone,
     lengths: [usize; 5],
 ) {
-    let mut ours = Lanes::guarded(lengths);
-    let mut reader = library::start();
-    let mut bytes = Vec::new();
-    let mut cuts = Vec::new();
-    for block in blocks {
-        let fed = library::feed(reader, block, ours.lent());
-        assert_eq!(fed.refusal, 0, "a reader that the calls made");
-        reader = fed.reader;
-        bytes.extend(block);
-        cuts.push(bytes.len());
-    }
-    let (wanted, theirs) = by_paper(&bytes, lengths);
-    let got = library::end(reader);
+    let bytes: Vec<u8> = blocks.clone().flatten().copied().collect();
+    let (mut ours, mut theirs) = (Lanes::guarded(lengths), Lanes::guarded(lengths));
+    let got = fed_to_library(blocks.clone(), &mut ours);
+    let wanted = paper::read_in_blocks(&comparison.rules, &bytes, &mut theirs.lent_on_paper());
+    let wanted = answer_by_paper(wanted.map(|found| (found.plan, found.seconds)));
     comparison.same((got, ours == theirs), (wanted, true), || {
+        let cuts: Vec<usize> = blocks.take(20).map(<[u8]>::len).collect();
         format!(
-            "lanes {lengths:?}, cuts {:?}, {} bytes {:02x?}",
-            &cuts[..cuts.len().min(20)],
+            "lanes {lengths:?}, blocks of {cuts:?}, {} bytes {:02x?}",
             bytes.len(),
             &bytes[..bytes.len().min(200)]
         )
     });
-}
-
-/// What the paper answers for the whole stream, and the lanes with the seconds before the first bad
-/// item: those of the stream that ends there.
-fn by_paper(bytes: &[u8], lengths: [usize; 5]) -> (library::ReadAnswer, Lanes) {
-    let mut lanes = Lanes::guarded(lengths);
-    let read = paper::read(bytes, &mut lanes.lent_on_paper());
-    if let Err(refusal) = &read {
-        // Nothing is before the first item: there is no plan, and nothing is written.
-        let before = paper::read(&bytes[..refusal.place], &mut lanes.lent_on_paper());
-        assert_eq!(before.is_ok(), refusal.place > 0);
-    }
-    (
-        answer_by_paper(read.map(|found| (found.plan, found.seconds))),
-        lanes,
-    )
 }
 
 /// Blocks of random lengths below `longest`, empty ones among them.

@@ -1,15 +1,12 @@
 //! D of one second, and the percentile of products.
 
-use library::{AccelerationAnswer, PercentileAnswer};
-use oracle::dynamics as paper;
-
 use crate::account::{Account, Comparison};
+use crate::case::Case;
 use crate::lanes::Lanes;
 use crate::random::Random;
 use crate::trips;
 
 const LIMIT: usize = 8_192;
-const GUARD: u32 = 0xa5a5_a5a5;
 
 pub fn compare(account: &mut Account) {
     let seed = account.seed;
@@ -24,22 +21,8 @@ pub fn compare(account: &mut Account) {
 }
 
 fn d(comparison: &mut Comparison, trip: &Lanes, index: usize) {
-    let mut wanted = AccelerationAnswer::default();
-    match paper::d_of_second(trip.trip_on_paper(), index) {
-        Err(refusal) => {
-            wanted.refusal = refusal.number;
-            wanted.place = refusal.place;
-        }
-        Ok(None) => {}
-        Ok(Some(d)) => {
-            wanted.has_d = true;
-            wanted.rise = d.max(0) as u16;
-            wanted.fall = (-d).max(0) as u16;
-        }
-    }
-    comparison.same(library::acceleration(trip.trip(), index), wanted, || {
-        format!("second {index} of {trip:?}")
-    });
+    let trip = trip.clone();
+    comparison.case(&Case::D { trip, index });
 }
 
 fn every_second(comparison: &mut Comparison, seed: u64) {
@@ -79,24 +62,8 @@ fn refusals(comparison: &mut Comparison, seed: u64) {
 }
 
 fn percentile(comparison: &mut Comparison, products: &[u32], places: usize) {
-    let (mut ours, mut theirs) = (vec![GUARD; places], vec![GUARD; places]);
-    let got = library::percentile(products, &mut ours);
-    let mut wanted = PercentileAnswer::default();
-    match paper::percentile(products, &mut theirs) {
-        Ok(q) => wanted.q = q as u64,
-        Err(refusal) => {
-            wanted.refusal = refusal.number;
-            wanted.place = refusal.place;
-        }
-    }
-    let same_lane = ours == theirs;
-    comparison.same((got, same_lane), (wanted, true), || {
-        format!(
-            "{places} places for {} products {:?}",
-            products.len(),
-            &products[..products.len().min(40)]
-        )
-    });
+    let products = products.to_vec();
+    comparison.case(&Case::Percentile { products, places });
 }
 
 /// Products of several characters: random, few values, ascending, descending, equal.

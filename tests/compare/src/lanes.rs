@@ -1,7 +1,8 @@
-//! The five lanes of a trip, for both sides.
+//! The five lanes of a trip and the four lent ones, for both sides.
 
 use oracle::second::{Second, TripLanes};
 use oracle::stream::StreamLanes;
+use oracle::trip::LentLanes;
 
 /// Each lane is of its own length.
 #[derive(Clone, Debug, Default, PartialEq, Eq)]
@@ -22,6 +23,11 @@ impl Lanes {
             co2: seconds.iter().map(|s| s.co2).collect(),
             nox: seconds.iter().map(|s| s.nox).collect(),
         }
+    }
+
+    /// The seconds of lanes of one length.
+    pub fn seconds(&self) -> Vec<Second> {
+        self.trip_on_paper().all().collect()
     }
 
     /// Lanes of these lengths, filled with values that no stream leaves there.
@@ -76,6 +82,46 @@ impl Lanes {
             altitudes: &self.altitudes,
             co2: &self.co2,
             nox: &self.nox,
+        }
+    }
+}
+
+/// The lanes lent to an evaluation, filled with values that none writes.
+#[derive(Clone, Debug, PartialEq, Eq)]
+pub struct Lent {
+    pub kept_speeds: Vec<u16>,
+    pub kept_co2: Vec<u32>,
+    pub ends: Vec<u16>,
+    pub ranks: Vec<u32>,
+}
+
+impl Lent {
+    pub fn guarded(places: [usize; 4]) -> Lent {
+        Lent {
+            kept_speeds: vec![0xa5a5; places[0]],
+            kept_co2: vec![0xa5a5_a5a5; places[1]],
+            ends: vec![0xa5a5; places[2]],
+            ranks: vec![0xa5a5_a5a5; places[3]],
+        }
+    }
+
+    /// Lent to the library.
+    pub fn lent(&mut self) -> library::Lent<'_> {
+        library::Lent {
+            kept_speeds: &mut self.kept_speeds,
+            kept_co2: &mut self.kept_co2,
+            ends: &mut self.ends,
+            ranks: &mut self.ranks,
+        }
+    }
+
+    /// Lent to the independent program.
+    pub fn lent_on_paper(&mut self) -> LentLanes<'_> {
+        LentLanes {
+            kept_speeds: &mut self.kept_speeds,
+            kept_co2: &mut self.kept_co2,
+            ends: &mut self.ends,
+            ranks: &mut self.ranks,
         }
     }
 }

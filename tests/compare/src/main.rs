@@ -1,6 +1,12 @@
 //! Compares the library and the program with the independent program.
 //!
 //!     compare [--soak] [SEED]
+//!     compare --freeze
+//!     compare --readings
+//!
+//! The build is held to the frozen set of the release that it names, the set is shown to tell every
+//! wrong reading, and then both sides are compared on many inputs. `--freeze` makes the set of a new
+//! release, `--readings` prints the wrong readings with what tells each.
 //!
 //! Each comparison prints how many inputs it tried and is one test; a difference is printed with
 //! its input, and the seed that brings it back. A soak goes on with seeds of its own, and runs the
@@ -8,17 +14,24 @@
 
 mod account;
 mod blocks;
+mod borders;
+mod case;
+mod chosen;
 mod dynamics;
+mod frozen;
 mod lanes;
 mod mass;
 mod probe;
 mod program;
 mod random;
+mod runs;
 mod stream;
 mod streams;
 mod sweep;
+mod telling;
 mod trip;
 mod trips;
+mod written;
 
 use account::Account;
 
@@ -28,16 +41,24 @@ const SEED: u64 = 2017_1151;
 const SOAK_SEEDS: u64 = 8;
 
 fn main() {
+    let release = library::meaning();
+    let Some(rules) = oracle::release(release) else {
+        eprintln!("the build answers by release {release}: the independent program has none such");
+        std::process::exit(1);
+    };
     let mut seed = SEED;
     let mut soak = false;
     for word in std::env::args().skip(1) {
-        if word == "--soak" {
-            soak = true;
-        } else {
-            seed = word.parse().expect("the seed is a whole number");
+        match &word[..] {
+            "--freeze" => std::process::exit(frozen::freeze(release, &rules)),
+            "--readings" => return telling::print(&rules),
+            "--soak" => soak = true,
+            number => seed = number.parse().expect("the seed is a whole number"),
         }
     }
-    let mut account = Account::new(seed);
+    let mut account = Account::new(rules, seed);
+    frozen::compare(&mut account);
+    telling::compare(&mut account);
     compare_library(&mut account);
     if soak {
         for more in 1..SOAK_SEEDS {

@@ -1,20 +1,8 @@
 //! The mass step: every kind of reading, both scales.
 
-use library::{MassAnswer, Setting};
-use oracle::mass as paper;
-
 use crate::account::{Account, Comparison};
+use crate::case::{Case, MassInput as Input};
 use crate::random::Random;
-
-/// What one call takes.
-#[derive(Clone, Copy, Debug)]
-struct Input {
-    kind: u8,
-    value: f64,
-    u: f64,
-    factor: f64,
-    flow: f64,
-}
 
 const PPM_MOST: f64 = 200_000.0;
 const PERCENT_MOST: f64 = 20.0;
@@ -34,48 +22,7 @@ pub fn compare(account: &mut Account) {
 
 /// Both scales of one input.
 fn both(comparison: &mut Comparison, input: Input) {
-    let setting = Setting {
-        u: input.u,
-        factor: input.factor,
-        flow: input.flow,
-    };
-    let paper_setting = paper::Setting {
-        u: input.u,
-        factor: input.factor,
-        flow: input.flow,
-    };
-    let reading = paper::Reading::of_kind(u32::from(input.kind), input.value);
-    let co2 = reading.and_then(|r| paper::co2_mass(r, paper_setting));
-    let nox = reading.and_then(|r| paper::nox_mass(r, paper_setting));
-    let show = || {
-        let bits = [input.value, input.u, input.factor, input.flow].map(f64::to_bits);
-        format!("{input:?}, bits {bits:#x?}")
-    };
-    comparison.same(
-        library::mass_co2(input.kind, input.value, setting),
-        expected(co2),
-        show,
-    );
-    comparison.same(
-        library::mass_nox(input.kind, input.value, setting),
-        expected(nox),
-        show,
-    );
-}
-
-fn expected(answer: Result<u32, oracle::Refusal>) -> MassAnswer {
-    match answer {
-        Ok(mass) => MassAnswer {
-            refusal: 0,
-            mass,
-            place: 0,
-        },
-        Err(refusal) => MassAnswer {
-            refusal: refusal.number,
-            mass: 0,
-            place: refusal.place,
-        },
-    }
+    comparison.case(&Case::Mass(input));
 }
 
 /// Any f64 at all: NaNs, infinities, subnormals, both zeros.

@@ -1,11 +1,10 @@
 //! Leaves that a trip reaches only with small figures, asked with figures of any size: the exact
 //! comparisons of the dynamics, whose products pass 64 bits, and the judgement of one window.
 
-use library::probe::{too_dull, too_lively, window, WindowProbe};
-use oracle::{dynamics, windows};
+use oracle::windows;
 
 use crate::account::{Account, Comparison};
-use crate::lanes::plan_of;
+use crate::case::Case;
 use crate::random::Random;
 use crate::trips;
 
@@ -24,16 +23,7 @@ pub fn compare(account: &mut Account) {
 }
 
 fn both(comparison: &mut Comparison, s: u32, n: u32, x: u64) {
-    let on_paper = (i128::from(s), i128::from(n), i128::from(x));
-    let (ps, pn, px) = on_paper;
-    comparison.same(
-        (too_lively(s, n, x), too_dull(s, n, x)),
-        (
-            dynamics::too_lively(ps, pn, px),
-            dynamics::too_dull(ps, pn, px),
-        ),
-        || format!("S {s}, N {n}, Q or T {x}"),
-    );
+    comparison.case(&Case::Dynamics { s, n, x });
 }
 
 /// A number of any size: few or many digits, or at an end.
@@ -92,19 +82,8 @@ fn turns(comparison: &mut Comparison, seed: u64) {
 }
 
 fn judged(comparison: &mut Comparison, plan: &oracle::Plan, s: u32, m: u32, n: usize) {
-    let v = windows::mean_speed(i128::from(s), n as i128);
-    let class = windows::class(v);
-    let w = windows::figure(i128::from(m), i128::from(s));
-    let c = windows::curve(plan, v);
-    let inside = class.is_some_and(|class| windows::is_inside(w, c, plan.lower, plan.upper[class]));
-    let wanted = WindowProbe {
-        judged: true,
-        inside,
-        class: class.unwrap_or(3),
-    };
-    comparison.same(window(plan_of(plan), s, m, n), wanted, || {
-        format!("{plan:?}, S {s}, m {m}, n {n}")
-    });
+    let plan = *plan;
+    comparison.case(&Case::Window { plan, s, m, n });
 }
 
 /// Means at each class's border and at the turn of the curve, masses at each edge of the band.
@@ -123,7 +102,9 @@ fn borders(comparison: &mut Comparison, seed: u64) {
         ][random.below(6) as usize];
         for near in 0..3 {
             let s = ((v * n as u64) / 10 + near).max(1) as u32;
-            let c = windows::curve(&plan, windows::mean_speed(i128::from(s), n as i128));
+            let rules = &comparison.rules;
+            let v = windows::mean_speed(rules, i128::from(s), n as i128);
+            let c = windows::curve(rules, &plan, v);
             let edges = [
                 (100 - i128::from(plan.lower)) * c,
                 (100 + i128::from(plan.upper[0])) * c,

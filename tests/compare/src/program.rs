@@ -51,9 +51,14 @@ fn program() -> PathBuf {
     Path::new(env!("CARGO_MANIFEST_DIR")).join("../../target/bin/judge")
 }
 
-/// A stream on both sides, handed over in writes of these lengths by turns: what is printed, with
-/// nothing on standard error.
-fn judged(comparison: &mut Comparison, bytes: &[u8], lengths: &[usize]) {
+/// What the program prints for a stream; what it says on standard error, or a status that is not
+/// 0, stands behind it.
+pub fn printed(bytes: &[u8]) -> String {
+    printed_by_blocks(bytes, &[bytes.len()])
+}
+
+/// The same, the stream handed over in writes of these lengths by turns.
+fn printed_by_blocks(bytes: &[u8], lengths: &[usize]) -> String {
     let mut child = Command::new(program())
         .stdin(Stdio::piped())
         .stdout(Stdio::piped())
@@ -76,12 +81,18 @@ fn judged(comparison: &mut Comparison, bytes: &[u8], lengths: &[usize]) {
     }
     drop(pipe);
     let output = child.wait_with_output().expect("the program ends");
-    let got = (
-        String::from_utf8_lossy(&output.stdout).into_owned(),
-        String::from_utf8_lossy(&output.stderr).into_owned(),
-        output.status.success(),
-    );
-    let wanted = (oracle::report::judge(bytes), String::new(), true);
+    let mut text = String::from_utf8_lossy(&output.stdout).into_owned();
+    text += &String::from_utf8_lossy(&output.stderr);
+    if !output.status.success() {
+        text += &format!("{}\n", output.status);
+    }
+    text
+}
+
+/// A stream on both sides, handed over in writes of these lengths by turns.
+fn judged(comparison: &mut Comparison, bytes: &[u8], lengths: &[usize]) {
+    let got = printed_by_blocks(bytes, lengths);
+    let wanted = oracle::report::judge(&comparison.rules, bytes);
     comparison.same(got, wanted, || {
         format!(
             "by {lengths:?}, {} bytes {:02x?}",

@@ -1,11 +1,10 @@
 //! The trip stream: one item, and a whole stream into lanes.
 
-use library::ItemAnswer;
-use oracle::item as paper_item;
-use oracle::stream as paper;
+use oracle::stream::Reading;
 
 use crate::account::{Account, Comparison};
-use crate::lanes::{answer_by_paper, plan_of, Lanes};
+use crate::case::Case;
+use crate::lanes::{answer_by_paper, Lanes};
 use crate::random::Random;
 use crate::streams;
 
@@ -37,43 +36,13 @@ pub fn compare(account: &mut Account) {
 
 /// One item on both sides.
 fn item(comparison: &mut Comparison, bytes: &[u8]) {
-    let mut wanted = ItemAnswer::default();
-    match paper_item::item(bytes) {
-        Err(refusal) => {
-            wanted.refusal = refusal.number;
-            wanted.place = refusal.place;
-        }
-        Ok((found, length)) => {
-            wanted.kind = bytes[0];
-            wanted.length = length;
-            match found {
-                paper_item::Item::Plan(plan) => wanted.plan = plan_of(&plan),
-                paper_item::Item::Second(second) => {
-                    wanted.speed = second.speed;
-                    wanted.altitude = second.altitude;
-                    wanted.co2 = second.co2;
-                    wanted.nox = second.nox;
-                }
-            }
-        }
-    }
-    comparison.same(library::item(bytes), wanted, || format!("{bytes:02x?}"));
+    comparison.case(&Case::Item(bytes.to_vec()));
 }
 
 /// A whole stream on both sides: the answer and every place of every lane.
-fn read(comparison: &mut Comparison, bytes: &[u8], lengths: [usize; 5]) {
-    let (mut ours, mut theirs) = (Lanes::guarded(lengths), Lanes::guarded(lengths));
-    let got = library::read(bytes, ours.lent());
-    let wanted = paper::read(bytes, &mut theirs.lent_on_paper());
-    let wanted = answer_by_paper(wanted.map(|found| (found.plan, found.seconds)));
-    let same_lanes = ours == theirs;
-    comparison.same((got, same_lanes), (wanted, true), || {
-        format!(
-            "lanes {lengths:?}, {} bytes {:02x?}",
-            bytes.len(),
-            &bytes[..bytes.len().min(200)]
-        )
-    });
+fn read(comparison: &mut Comparison, bytes: &[u8], places: [usize; 5]) {
+    let bytes = bytes.to_vec();
+    comparison.case(&Case::Read { bytes, places });
 }
 
 fn any_bytes(comparison: &mut Comparison, seed: u64) {
@@ -175,7 +144,7 @@ fn short_lanes(comparison: &mut Comparison, seed: u64) {
     }
 }
 
-/// Three streams of 8,192 seconds; each is read whole, and at each byte the item call sees the cut.
+/// Three streams of 8,192 seconds, each cut at every byte.
 fn every_prefix(comparison: &mut Comparison, seed: u64) {
     let mut random = Random::new(seed ^ 26);
     for _ in 0..3 {
@@ -183,17 +152,34 @@ fn every_prefix(comparison: &mut Comparison, seed: u64) {
         read(comparison, &bytes, [TOO_MANY - 1; 5]);
         let mut ours = Lanes::guarded([TOO_MANY - 1; 5]);
         let untouched = ours.clone();
+        // What stands before a cut was read for the cut before it.
+        let mut reading = Reading::default();
         for end in 0..bytes.len() {
-            prefix(comparison, &bytes[..end], &mut ours, &untouched);
+            prefix(
+                comparison,
+                &bytes[..end],
+                &mut ours,
+                &untouched,
+                &mut reading,
+            );
         }
     }
 }
 
 /// A cut stream: refused with nothing written, or readable because the cut lies between items.
-fn prefix(comparison: &mut Comparison, bytes: &[u8], ours: &mut Lanes, untouched: &Lanes) {
+fn prefix(
+    comparison: &mut Comparison,
+    bytes: &[u8],
+    ours: &mut Lanes,
+    untouched: &Lanes,
+    reading: &mut Reading,
+) {
     let got = library::read(bytes, ours.lent());
-    let wanted = paper::items(bytes, TOO_MANY - 1);
-    let wanted = answer_by_paper(wanted.map(|(plan, seconds)| (plan, seconds.len())));
+    let wanted = match reading.read_on(&comparison.rules, bytes, TOO_MANY - 1) {
+        Some(refusal) => Err(refusal),
+        None => Ok((reading.plan.expect("a plan"), reading.seconds.len())),
+    };
+    let wanted = answer_by_paper(wanted);
     let written_only_if_read = got.refusal == 0 || *ours == *untouched;
     if got.refusal == 0 {
         ours.clone_from(untouched);

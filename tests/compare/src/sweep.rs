@@ -1,13 +1,10 @@
 //! The sweep: cut by budgets, resumed, and asked from states that it never reaches.
 
 use library::{SweepAnswer, SweepState};
-use oracle::windows as paper;
 
 use crate::account::{Account, Comparison};
+use crate::case::{Answer, Case, SweepInput};
 use crate::random::Random;
-
-/// What the caller left in the lane of ends; no end is as large.
-const GUARD: u16 = 0xa5a5;
 
 const LIMIT: usize = 8_192;
 
@@ -38,49 +35,20 @@ fn call(
     comparison: &mut Comparison,
     reference: u32,
     co2: &[u32],
-    ends: &[u16],
+    places: usize,
     state: SweepState,
     budget: u64,
 ) -> SweepAnswer {
-    let (mut ours, mut theirs) = (ends.to_vec(), ends.to_vec());
-    let got = library::sweep(reference, co2, &mut ours, state, budget);
-    let wanted = paper::sweep(co2, &mut theirs, reference, on_paper(state), budget);
-    let wanted = match wanted {
-        Ok(answer) => SweepAnswer {
-            refusal: 0,
-            place: 0,
-            state: of_paper(answer.state),
-            moves: answer.moves,
-            over: paper::one_move(co2, reference, answer.state).is_none(),
-        },
-        Err(refusal) => SweepAnswer {
-            refusal: refusal.number,
-            place: refusal.place,
-            state: BEGINNING,
-            moves: 0,
-            over: false,
-        },
-    };
-    let show = || format!("reference {reference}, co2 {co2:?}, state {state:?}, budget {budget}");
-    comparison.same((got, ours), (wanted, theirs), show);
-    got
-}
-
-fn on_paper(state: SweepState) -> paper::SweepState {
-    paper::SweepState {
-        taken: state.taken,
-        dropped: state.dropped,
-        mass: state.mass,
-        moves: state.moves,
-    }
-}
-
-fn of_paper(state: paper::SweepState) -> SweepState {
-    SweepState {
-        taken: state.taken,
-        dropped: state.dropped,
-        mass: state.mass,
-        moves: state.moves,
+    let answer = comparison.case(&Case::Sweep(SweepInput {
+        reference,
+        co2: co2.to_vec(),
+        places,
+        state,
+        budget,
+    }));
+    match answer {
+        Answer::Sweep(answer, _) => answer,
+        other => panic!("no answer of the sweep: {other:?}"),
     }
 }
 
@@ -113,10 +81,10 @@ fn every_budget(comparison: &mut Comparison, seed: u64) {
     for round in 0..1_500 {
         let (reference, co2) = masses(&mut random, round % 13);
         for budget in 0..=2 * co2.len() as u64 + 2 {
-            let ends = vec![GUARD; co2.len() + 2];
-            let first = call(comparison, reference, &co2, &ends, BEGINNING, budget);
-            call(comparison, reference, &co2, &ends, first.state, u64::MAX);
-            call(comparison, reference, &co2, &ends, first.state, 1);
+            let places = co2.len() + 2;
+            let first = call(comparison, reference, &co2, places, BEGINNING, budget);
+            call(comparison, reference, &co2, places, first.state, u64::MAX);
+            call(comparison, reference, &co2, places, first.state, 1);
         }
     }
 }
@@ -130,12 +98,10 @@ fn large(comparison: &mut Comparison, seed: u64) {
             random.below(LIMIT as u64) as usize
         };
         let (reference, co2) = masses(&mut random, n);
-        let mut ends = vec![GUARD; n];
         let mut state = BEGINNING;
         loop {
             let budget = random.below(n as u64 + 2);
-            let answer = call(comparison, reference, &co2, &ends, state, budget);
-            library::sweep(reference, &co2, &mut ends, state, budget);
+            let answer = call(comparison, reference, &co2, n, state, budget);
             state = answer.state;
             if answer.over {
                 break;
@@ -150,9 +116,8 @@ fn altered(comparison: &mut Comparison, seed: u64) {
     for _ in 0..3_000 {
         let n = random.below(20) as usize;
         let (reference, co2) = masses(&mut random, n);
-        let ends = vec![GUARD; n];
         let budget = random.below(2 * n as u64 + 2);
-        let state = library::sweep(reference, &co2, &mut ends.clone(), BEGINNING, budget).state;
+        let state = library::sweep(reference, &co2, &mut vec![0; n], BEGINNING, budget).state;
         for field in 0..4 {
             for change in [1, u64::MAX, 2, 1 << 32, random.bits(), random.below(40)] {
                 let mut other = state;
@@ -163,7 +128,7 @@ fn altered(comparison: &mut Comparison, seed: u64) {
                     _ => &mut other.moves,
                 };
                 *place = place.wrapping_add(change);
-                call(comparison, reference, &co2, &ends, other, random.below(5));
+                call(comparison, reference, &co2, n, other, random.below(5));
             }
         }
         let wild = SweepState {
@@ -172,7 +137,7 @@ fn altered(comparison: &mut Comparison, seed: u64) {
             mass: random.below(200_000),
             moves: random.below(2 * n as u64 + 2),
         };
-        call(comparison, reference, &co2, &ends, wild, 3);
+        call(comparison, reference, &co2, n, wild, 3);
     }
 }
 
@@ -201,7 +166,7 @@ fn refusals(comparison: &mut Comparison, seed: u64) {
             if faults & 16 > 0 {
                 state.moves = 1 + random.below(3);
             }
-            call(comparison, reference, &co2, &vec![GUARD; room], state, 7);
+            call(comparison, reference, &co2, room, state, 7);
         }
     }
 }

@@ -210,69 +210,6 @@ fn measured(speed: u16, altitude: i32, co2: u32) -> Second {
     }
 }
 
-/// Trips that stand on a border of a rule and one step beside it.
-pub fn on_borders() -> Vec<(Plan, Vec<Second>)> {
-    let plan = Plan {
-        reference: 7,
-        e1: 200_000,
-        e2: 140_000,
-        e3: 160_000,
-        lower: 25,
-        upper: [45, 40, 40],
-    };
-    let mut found = Vec::new();
-    let mut add = |seconds: Vec<Second>| found.push((plan, seconds));
-    for n in [5_399, 5_400, 7_200, 7_201] {
-        add(vec![measured(3_600, 0, 1); n]);
-    }
-    for gone in [29, 30, 31, 53, 54, 55] {
-        let mut seconds = vec![measured(3_600, 0, 1); 5_400];
-        seconds[..gone].fill(Second::missing());
-        add(seconds);
-    }
-    for speed in [
-        99, 100, 1_499, 1_500, 4_000, 4_001, 6_000, 6_001, 9_000, 9_001, 14_500, 16_001,
-    ] {
-        add(vec![measured(speed, 0, 1); 400]);
-    }
-    for (low, high) in [
-        (0, 10_000),
-        (0, 10_001),
-        (130_000, 130_000),
-        (130_001, 130_001),
-    ] {
-        let mut seconds = vec![measured(25_000, low, 1); 3];
-        seconds.push(measured(25_000, high, 1));
-        add(seconds);
-    }
-    for change in [707, 708] {
-        add(vec![
-            measured(3_600, 0, 0),
-            measured(3_600, change, 0),
-            measured(3_600, 0, 0),
-        ]);
-    }
-    for up in [95_999, 96_000] {
-        let mut seconds = vec![measured(25_000, 0, 0); 1_152];
-        for (i, second) in seconds.iter_mut().enumerate() {
-            second.altitude = (up * i as i32) / 1_151;
-        }
-        add(seconds);
-    }
-    for fast in [299, 300] {
-        let mut seconds = vec![measured(5_000, 0, 1); 600];
-        seconds[..fast].fill(measured(10_001, 0, 1));
-        add(seconds);
-    }
-    for rising in [99, 100, 101] {
-        let speeds = (0..2 * rising).map(|i| if i % 2 == 0 { 1_000 } else { 1_073 });
-        add(speeds.map(|speed| measured(speed, 0, 1)).collect());
-        let pairs = (0..3 * rising).map(|i| [1_000, 1_036, 1_073][i % 3]);
-        add(pairs.map(|speed| measured(speed, 0, 1)).collect());
-    }
-    found
-}
-
 /// A lane of seconds all alike, or alternating between two extremes.
 pub fn uniform(n: usize, character: usize) -> Vec<Second> {
     let second = |i: usize| match character {

@@ -1,10 +1,13 @@
 //! The independent program: the rules of the paper in plain loops, written from its text alone.
 //!
 //! It judges the product, so it is made to be read beside the paper. Modules stand in the paper's
-//! order. A figure is an `i128`; arithmetic that would overflow stops the program instead of
-//! wrapping (`overflow-checks`). A call that refuses gives a [`Refusal`] and has written nothing; a
-//! call that accepts has written only the places its comment names.
+//! order. What the paper fixes (numbers, ends, orders, choices) stands by name in `rules`, release
+//! by release; `wrong` is the table of its wrong readings. A figure is an `i128`; arithmetic that
+//! would overflow stops the program instead of wrapping (`overflow-checks`). A call that refuses
+//! gives a [`Refusal`] and has written nothing; a call that accepts has written only the places its
+//! comment names.
 
+pub mod bound;
 pub mod climb;
 pub mod dynamics;
 pub mod item;
@@ -13,9 +16,12 @@ pub mod natural;
 pub mod numbers;
 pub mod reasons;
 pub mod report;
+pub mod rules;
 pub mod second;
 pub mod stream;
 pub mod trip;
 pub mod windows;
+pub mod wrong;
 
 pub use numbers::{Plan, Refusal};
+pub use rules::{release, Rules};

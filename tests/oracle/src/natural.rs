@@ -61,7 +61,28 @@ fn times(a: &Natural, b: &Natural) -> Natural {
     result
 }
 
+/// The number halved so many times, what is below one cut off.
+pub fn halved(a: &Natural, times: usize) -> Natural {
+    let (whole, bits) = (times / 32, times % 32);
+    let digits = (whole..a.digits.len()).map(|place| {
+        let two = a.digit(place) + BASE * a.digit(place + 1);
+        ((two >> bits) % BASE) as u32
+    });
+    Natural::of(digits.collect())
+}
+
 impl Natural {
+    /// The number itself, where it is below 2^128.
+    pub fn small(&self) -> Option<u128> {
+        let digit = |place: usize| u128::from(self.digit(place)) << (32 * place);
+        (self.digits.len() <= 4).then(|| (0..4).map(digit).sum())
+    }
+
+    /// What is left of the number in 64 bits.
+    pub fn low_half(&self) -> u64 {
+        self.digit(0) + BASE * self.digit(1)
+    }
+
     /// The number with these digits.
     fn of(mut digits: Vec<u32>) -> Natural {
         while digits.last() == Some(&0) {

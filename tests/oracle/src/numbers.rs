@@ -1,29 +1,6 @@
-//! "Units and ranges" and "Numbers of refusal": every limit of the paper by name.
+//! The paper's numbers for states, places and refusals, and the plan.
 
-use std::ops::RangeInclusive;
-
-/// "A trip has at most 8,192 seconds."
-pub const TRIP_LIMIT: usize = 8_192;
-
-/// "Speed: 0.01 km/h, 0 to 25,000."
-pub const SPEED: RangeInclusive<u16> = 0..=25_000;
-/// "Altitude: cm, -50,000 to 500,000."
-pub const ALTITUDE: RangeInclusive<i32> = -50_000..=500_000;
-/// "CO2: mg in the second, 0 to 100,000."
-pub const CO2: RangeInclusive<u32> = 0..=100_000;
-/// "NOx: µg in the second, 0 to 10,000,000."
-pub const NOX: RangeInclusive<u32> = 0..=10_000_000;
-/// "reference CO2 mass in mg .., 1 to 20,000,000"
-pub const REFERENCE: RangeInclusive<u32> = 1..=20_000_000;
-/// "curve values E1, E2, E3 in mg/km, each 1 to 2,000,000"
-pub const CURVE: RangeInclusive<u32> = 1..=2_000_000;
-/// "lower tolerance and upper tolerances .., percent, each 0 to 100"
-pub const TOLERANCE: RangeInclusive<u8> = 0..=100;
-/// "products in any order, each 0 to 625,000,000"
-pub const PRODUCT: RangeInclusive<u32> = 0..=625_000_000;
-
-/// "the sum S of its speeds; one km is 360,000"
-pub const KILOMETRE: i128 = 360_000;
+use crate::rules::{Order, Rules};
 
 /// "1 measured"
 pub const MEASURED: u8 = 1;
@@ -86,9 +63,25 @@ impl Refusal {
     }
 }
 
+/// "Orders": the first number of an order whose condition holds, with its place.
+pub fn refuse(order: &Order, place_of: impl Fn(u8) -> Option<usize>) -> Result<(), Refusal> {
+    let held = |&number: &u8| place_of(number).map(|place| Refusal::at(number, place));
+    let Some(first) = order.numbers.iter().find_map(held) else {
+        return Ok(());
+    };
+    // A wrong reading has two of them the other way round.
+    let exchanged = order.exchanged.filter(|pair| pair.0 == first.number);
+    Err(exchanged.and_then(|pair| held(&pair.1)).unwrap_or(first))
+}
+
+/// The place 0 where a condition holds.
+pub fn at_0(holds: bool) -> Option<usize> {
+    holds.then_some(0)
+}
+
 /// "Plan: reference CO2 mass ..; curve values E1, E2, E3 ..; lower tolerance and upper tolerances
 /// for urban, rural, motorway".
-#[derive(Clone, Copy, Debug, PartialEq, Eq)]
+#[derive(Clone, Copy, Debug, Default, PartialEq, Eq)]
 pub struct Plan {
     pub reference: u32,
     pub e1: u32,
@@ -100,13 +93,20 @@ pub struct Plan {
 }
 
 impl Plan {
+    /// E1, E2, E3.
+    pub fn curve(&self) -> [u32; 3] {
+        [self.e1, self.e2, self.e3]
+    }
+
     /// "reference .. 1 to 20,000,000; .. each 1 to 2,000,000; .. each 0 to 100"
-    pub fn in_range(&self) -> bool {
-        REFERENCE.contains(&self.reference)
-            && CURVE.contains(&self.e1)
-            && CURVE.contains(&self.e2)
-            && CURVE.contains(&self.e3)
-            && TOLERANCE.contains(&self.lower)
-            && self.upper.iter().all(|upper| TOLERANCE.contains(upper))
+    pub fn in_range(&self, rules: &Rules) -> bool {
+        let ranges = &rules.ranges;
+        let [urban, rural, motorway] = self.upper;
+        let curve = ranges.curve.iter().zip(self.curve());
+        let tolerances = [self.lower, urban, rural, motorway];
+        let tolerances = ranges.tolerances.iter().zip(tolerances);
+        ranges.reference.holds(self.reference)
+            && curve.into_iter().all(|(range, e)| range.holds(e))
+            && tolerances.into_iter().all(|(range, t)| range.holds(t))
     }
 }

@@ -1,7 +1,9 @@
 //! "The sixteen reasons".
 
+use crate::bound::Range;
 use crate::dynamics::{too_dull, too_lively};
-use crate::numbers::{MOTORWAY, RURAL, URBAN};
+use crate::numbers::{MOTORWAY, URBAN};
+use crate::rules::{Rules, Slip};
 
 /// "seconds, distance, CO2 and NOx (masses of state 1 only)"
 #[derive(Clone, Copy, Debug, Default, PartialEq, Eq)]
@@ -57,86 +59,191 @@ pub struct Figures {
     pub classes: [ClassFigures; 3],
 }
 
-/// "Ranges include their ends": `part` of `whole`, in percent, outside `low` to `high`, "compared by
-/// cross-multiplying".
-pub fn share_outside(part: i128, whole: i128, low: i128, high: i128) -> bool {
-    100 * part < low * whole || 100 * part > high * whole
+/// Whether "means and shares are compared by cross-multiplying", `part` of `whole`; a wrong reading
+/// rounds the quotient down first, or takes an empty whole for one outside.
+fn outside(rules: &Rules, within: &Range<i128>, part: i128, whole: i128, slips: [Slip; 2]) -> bool {
+    let [rounded, empty_outside] = slips;
+    if whole == 0 && rules.slips(empty_outside) {
+        return true;
+    }
+    if whole != 0 && rules.slips(rounded) {
+        return !within.holds(part.div_euclid(whole));
+    }
+    !within.holds_times(part, whole)
 }
 
-/// "Means .. are compared by cross-multiplying": the mean outside `low` to `high`.
-pub fn mean_outside(tally: &Tally, low: i128, high: i128) -> bool {
-    tally.distance < low * tally.seconds || tally.distance > high * tally.seconds
+/// 2: "a part's S below 5,760,000".
+fn a_part_too_short(rules: &Rules, f: &Figures) -> bool {
+    let reason = &rules.reasons;
+    let fits = |part: usize| reason.part_distance[part].holds(f.bins[part].tally.distance);
+    !reason.parts_of_2.iter().all(|&part| fits(part))
 }
 
 /// 3: "a part's share of S outside, in percent, urban 29 to 44, rural and motorway 23 to 43".
-fn a_share_outside(f: &Figures) -> bool {
-    let s = f.total.distance;
-    share_outside(f.bins[URBAN].tally.distance, s, 29, 44)
-        || share_outside(f.bins[RURAL].tally.distance, s, 23, 43)
-        || share_outside(f.bins[MOTORWAY].tally.distance, s, 23, 43)
+fn a_share_outside(rules: &Rules, f: &Figures) -> bool {
+    let reason = &rules.reasons;
+    let by_seconds = rules.slips(Slip::ShareOfSecondsInReason3);
+    let size = |tally: &Tally| {
+        if by_seconds {
+            tally.seconds
+        } else {
+            tally.distance
+        }
+    };
+    let whole = size(&f.total);
+    let slips = [Slip::ShareRoundedInReason3, Slip::NoDistanceSets3];
+    reason.parts_of_3.iter().any(|&part| {
+        let size = 100 * size(&f.bins[part].tally);
+        outside(rules, &reason.share[part], size, whole, slips)
+    })
 }
 
-/// 12: "a bin too lively"; one with M below 100 "is judged for neither 12 nor 13".
-fn is_too_lively(bin: &BinFigures) -> bool {
-    bin.m >= 100 && too_lively(bin.tally.distance, bin.tally.seconds, bin.q)
+/// 5: "urban seconds below 100 not 6 to 30 percent of urban seconds".
+fn standing_outside(rules: &Rules, f: &Figures) -> bool {
+    let of_all = rules.slips(Slip::StandingOfAllSeconds);
+    let whole = if of_all {
+        f.seconds
+    } else {
+        f.bins[URBAN].tally.seconds
+    };
+    let slips = [Slip::StandingShareRounded, Slip::EmptyBinSets5];
+    outside(
+        rules,
+        &rules.reasons.standing,
+        100 * f.urban_below_100,
+        whole,
+        slips,
+    )
 }
 
-/// 13: "a bin too dull"; one with M below 100 "is judged for neither 12 nor 13".
-fn is_too_dull(bin: &BinFigures) -> bool {
-    bin.m >= 100 && too_dull(bin.tally.distance, bin.tally.seconds, bin.t)
+/// 7: "a speed above 16,000, or seconds above 14,500 over 3 percent of motorway seconds".
+fn too_fast(rules: &Rules, f: &Figures) -> bool {
+    let reason = &rules.reasons;
+    let whole = match rules.slip {
+        Some(Slip::FastOfAllSeconds) => f.seconds,
+        Some(Slip::FastOfRecordedSeconds) => f.total.seconds,
+        _ => f.bins[MOTORWAY].tally.seconds,
+    };
+    let slips = [Slip::FastShareRounded, Slip::EmptyBinSets7];
+    f.above_16_000 > 0
+        || outside(
+            rules,
+            &reason.fast_share,
+            100 * f.above_14_500,
+            whole,
+            slips,
+        )
+}
+
+/// 8: "first and last recorded altitude differ by over 10,000".
+fn ends_differ(rules: &Rules, f: &Figures) -> bool {
+    let up = f.last_altitude - f.first_altitude;
+    let difference = match rules.slip {
+        Some(Slip::OnlyARiseInReason8) => up,
+        Some(Slip::OnlyAFallInReason8) => -up,
+        _ => up.abs(),
+    };
+    !rules.reasons.altitude_difference.holds(difference)
+}
+
+/// 11: "a bin with M below 100 (that bin is judged for neither 12 nor 13)".
+fn is_judged(rules: &Rules, bin: &BinFigures) -> bool {
+    rules.reasons.products.holds(bin.m)
+}
+
+/// 12 and 13: whether one of these bins is so; of those with M below 100 only a wrong reading asks.
+fn a_judged_bin(
+    rules: &Rules,
+    f: &Figures,
+    bins: &[usize],
+    of_few_products: Slip,
+    is_so: impl Fn(&BinFigures) -> bool,
+) -> bool {
+    bins.iter().any(|&bin| {
+        let bin = &f.bins[bin];
+        (is_judged(rules, bin) || rules.slips(of_few_products)) && is_so(bin)
+    })
+}
+
+/// 12: "a bin too lively".
+fn a_bin_too_lively(rules: &Rules, f: &Figures) -> bool {
+    let bins = &rules.reasons.parts_of_12;
+    a_judged_bin(rules, f, bins, Slip::LivelyJudgedOfFewProducts, |bin| {
+        too_lively(rules, bin.tally.distance, bin.tally.seconds, bin.q)
+    })
+}
+
+/// 13: "a bin too dull".
+fn a_bin_too_dull(rules: &Rules, f: &Figures) -> bool {
+    let bins = &rules.reasons.parts_of_13;
+    a_judged_bin(rules, f, bins, Slip::DullJudgedOfFewProducts, |bin| {
+        too_dull(rules, bin.tally.distance, bin.tally.seconds, bin.t)
+    })
+}
+
+/// 14: "a class without windows".
+fn a_class_without_windows(rules: &Rules, f: &Figures) -> bool {
+    let reason = &rules.reasons;
+    let has_windows = |class: usize| reason.class_windows.holds(f.classes[class].windows);
+    !reason.parts_of_14.iter().all(|&class| has_windows(class))
 }
 
 /// 15: "a class with windows, under half inside".
-fn is_under_half_inside(class: &ClassFigures) -> bool {
-    class.windows > 0 && 2 * class.inside < class.windows
+fn a_class_under_half_inside(rules: &Rules, f: &Figures) -> bool {
+    let reason = &rules.reasons;
+    let under_half = |class: &ClassFigures| {
+        let inside = reason.half_times * class.inside;
+        let without = class.windows == 0 && rules.slips(Slip::ClassWithoutWindowsSets15);
+        without || class.windows > 0 && !reason.half.passes(inside.cmp(&class.windows))
+    };
+    let mut classes = reason.parts_of_15.iter();
+    classes.any(|&class| under_half(&f.classes[class]))
 }
 
 /// "Bit set when:" each reason in its order.
-pub fn each_reason(f: &Figures) -> [bool; 16] {
-    let urban = &f.bins[URBAN].tally;
-    let motorway = &f.bins[MOTORWAY].tally;
+pub fn each_reason(rules: &Rules, f: &Figures) -> [bool; 16] {
+    let reason = &rules.reasons;
+    let mean = &f.bins[reason.part_of_4].tally;
+    let slips_of_4 = [Slip::MeanRoundedInReason4, Slip::EmptyBinSets4];
+    let missing = reason.missing_times * f.missing;
+    let climb = reason.climb_times * f.climb;
     [
         // 0: n outside 5,400 to 7,200.
-        f.seconds < 5_400 || f.seconds > 7_200,
+        !reason.seconds.holds(f.seconds),
         // 1: 100 times missing not below n, or over 30 missing in a row.
-        100 * f.missing >= f.seconds || f.missing_in_a_row > 30,
-        // 2: a part's S below 5,760,000.
-        f.bins.iter().any(|bin| bin.tally.distance < 5_760_000),
-        // 3: a part's share of S outside.
-        a_share_outside(f),
+        !reason.missing.passes(missing.cmp(&f.seconds))
+            || !reason.missing_in_a_row.holds(f.missing_in_a_row),
+        a_part_too_short(rules, f),
+        a_share_outside(rules, f),
         // 4: urban mean outside 1,500 to 4,000.
-        mean_outside(urban, 1_500, 4_000),
-        // 5: urban seconds below 100 not 6 to 30 percent of urban seconds.
-        share_outside(f.urban_below_100, urban.seconds, 6, 30),
+        outside(rules, &reason.mean, mean.distance, mean.seconds, slips_of_4),
+        standing_outside(rules, f),
         // 6: fewer than 300 seconds above 10,000.
-        f.above_10_000 < 300,
-        // 7: a speed above 16,000, or seconds above 14,500 over 3 percent of motorway seconds.
-        f.above_16_000 > 0 || 100 * f.above_14_500 > 3 * motorway.seconds,
-        // 8: first and last recorded altitude differ by over 10,000.
-        (f.first_altitude - f.last_altitude).abs() > 10_000,
+        !reason.fast_seconds.holds(f.above_10_000),
+        too_fast(rules, f),
+        ends_differ(rules, f),
         // 9: a corrected altitude above 130,000.
-        f.highest_corrected > 130_000,
+        !reason.highest.holds(f.highest_corrected),
         // 10: 300 times climb not below total S.
-        300 * f.climb >= f.total.distance,
+        !reason.climb.passes(climb.cmp(&f.total.distance)),
         // 11: a bin with M below 100.
-        f.bins.iter().any(|bin| bin.m < 100),
-        // 12: a bin too lively.
-        f.bins.iter().any(is_too_lively),
-        // 13: a bin too dull.
-        f.bins.iter().any(is_too_dull),
-        // 14: a class without windows.
-        f.classes.iter().any(|class| class.windows == 0),
-        // 15: a class with windows, under half inside.
-        f.classes.iter().any(is_under_half_inside),
+        !reason
+            .parts_of_11
+            .iter()
+            .all(|&part| is_judged(rules, &f.bins[part])),
+        a_bin_too_lively(rules, f),
+        a_bin_too_dull(rules, f),
+        a_class_without_windows(rules, f),
+        a_class_under_half_inside(rules, f),
     ]
 }
 
 /// "The verdict is a sixteen-bit number, a bit per reason, zero meaning valid."
-pub fn reasons(f: &Figures) -> u16 {
+pub fn reasons(rules: &Rules, f: &Figures) -> u16 {
     let mut verdict = 0;
-    for (reason, set) in each_reason(f).into_iter().enumerate() {
+    for (bit, set) in rules.reasons.bits.iter().zip(each_reason(rules, f)) {
         if set {
-            verdict += 1 << reason;
+            verdict += 1 << bit;
         }
     }
     verdict

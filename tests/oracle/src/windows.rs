@@ -1,56 +1,95 @@
 //! "Kept seconds and windows".
 
+use crate::bound::Bound;
 use crate::numbers::{
-    Plan, Refusal, CO2, KILOMETRE, LANE_TOO_SHORT, MEASURED, MOTORWAY, OUT_OF_RANGE,
-    PLAN_OUT_OF_RANGE, REFERENCE, RURAL, STATE_NEVER_REACHED, TOO_MANY, TRIP_LIMIT, URBAN,
+    at_0, refuse, Plan, Refusal, LANE_TOO_SHORT, MOTORWAY, OUT_OF_RANGE, PLAN_OUT_OF_RANGE,
+    STATE_NEVER_REACHED, TOO_MANY,
 };
+use crate::rules::{Rules, Slip};
 use crate::second::{Second, TripLanes};
 
 /// "Kept: state 1 and speed at least 100."
-pub fn is_kept(second: &Second) -> bool {
-    second.state == MEASURED && second.speed >= 100
+pub fn is_kept(rules: &Rules, second: &Second) -> bool {
+    rules.states.kept.contains(&second.state) && rules.windows.kept_speed.holds(second.speed)
 }
 
 /// "Kept speeds and CO2 masses stand in order in lanes of their own."
-pub fn kept(trip: TripLanes) -> (Vec<u16>, Vec<u32>) {
+pub fn kept(rules: &Rules, trip: TripLanes) -> (Vec<u16>, Vec<u32>) {
     let mut speeds = Vec::new();
     let mut co2 = Vec::new();
     for second in trip.all() {
-        if is_kept(&second) {
+        if is_kept(rules, &second) {
             speeds.push(second.speed);
             co2.push(second.co2);
         }
+    }
+    if rules.slips(Slip::KeptInReverse) {
+        speeds.reverse();
+        co2.reverse();
     }
     (speeds, co2)
 }
 
 /// "The window from kept second f ends at the first l, from f on, where the CO2 sum f to l reaches
 /// the reference." Both from 0; none where the sum never does.
-pub fn window_last(kept_co2: &[u32], first: usize, reference: u32) -> Option<usize> {
+pub fn window_last(rules: &Rules, kept_co2: &[u32], first: usize, reference: u32) -> Option<usize> {
+    let reached = Bound {
+        side: rules.windows.window_reaches,
+        number: u64::from(reference),
+    };
     let mut sum = 0u64;
+    let mut found = None;
     for (last, &co2) in kept_co2.iter().enumerate().skip(first) {
         sum += u64::from(co2);
-        if sum >= u64::from(reference) {
-            return Some(last);
-        }
-    }
-    None
-}
-
-/// The windows of the kept seconds, each with its first and last second from 0.
-pub fn windows(kept_co2: &[u32], reference: u32) -> Vec<(usize, usize)> {
-    let mut found = Vec::new();
-    for first in 0..kept_co2.len() {
-        if let Some(last) = window_last(kept_co2, first, reference) {
-            found.push((first, last));
+        if reached.holds(sum) {
+            found = Some(last);
+            if !rules.slips(Slip::LastSecondThatReaches) {
+                break;
+            }
         }
     }
     found
 }
 
+/// The windows of the kept seconds, each with its first and last second from 0.
+pub fn windows(rules: &Rules, kept_co2: &[u32], reference: u32) -> Vec<(usize, usize)> {
+    let mut found = Vec::new();
+    let mut first = 0;
+    while first < kept_co2.len() {
+        let mut next = first + 1;
+        if let Some(last) = window_last(rules, kept_co2, first, reference) {
+            found.push((first, last));
+            if rules.slips(Slip::NextWindowFromTheOldEnd) {
+                next = last + 1;
+            }
+        }
+        first = next;
+    }
+    found
+}
+
 /// A window's end as it is written: "first kept second numbered 1".
-pub fn end_number(last: usize) -> u16 {
-    u16::try_from(last + 1).expect("at most 8,192 kept seconds")
+pub fn end_number(rules: &Rules, last: usize) -> u16 {
+    u16::try_from(last + rules.windows.first_number).expect("at most 8,192 kept seconds")
+}
+
+/// "write its end in the place of its first second"
+fn write_end(rules: &Rules, ends: &mut [u16], first: usize, last: usize) {
+    let in_last = rules.slips(Slip::EndInThePlaceOfTheLastSecond);
+    let place = if in_last { last } else { first };
+    if let Some(place) = ends.get_mut(place) {
+        *place = end_number(rules, last);
+    }
+}
+
+/// The ends of these windows into the lane.
+pub fn write_ends(rules: &Rules, windows: &[(usize, usize)], ends: &mut [u16]) {
+    if rules.slips(Slip::RestOfTheLanesCleared) {
+        ends.fill(0);
+    }
+    for &(first, last) in windows {
+        write_end(rules, ends, first, last);
+    }
 }
 
 /// "The sweep begins with nothing taken, nothing dropped, mass 0, no moves."
@@ -69,45 +108,73 @@ pub struct SweepAnswer {
     pub moves: u64,
 }
 
-/// One move: the state after it and, where it closed a window, the place written and the end.
+/// One move: the state after it and, where it closed a window, the window's first and last second.
 #[derive(Clone, Copy, Debug, PartialEq, Eq)]
 pub struct Move {
     pub after: SweepState,
-    pub written: Option<(usize, u16)>,
+    pub closed: Option<(usize, usize)>,
 }
 
 /// "One move: if the mass reaches the reference, close the window, write its end in the place of its
 /// first second .., and drop that second; otherwise take the next kept second; with none left the
 /// sweep is over." For a state that is reached; none where the sweep is over.
-pub fn one_move(kept_co2: &[u32], reference: u32, before: SweepState) -> Option<Move> {
-    let first = before.dropped as usize;
-    let next = before.taken as usize;
+pub fn one_move(
+    rules: &Rules,
+    kept_co2: &[u32],
+    reference: u32,
+    before: SweepState,
+) -> Option<Move> {
+    let reached = Bound {
+        side: rules.windows.move_reaches,
+        number: u64::from(reference),
+    };
+    let (first, next) = (before.dropped as usize, before.taken as usize);
     let mut after = before;
-    after.moves += 1;
-    if before.mass >= u64::from(reference) {
-        after.dropped += 1;
-        after.mass -= u64::from(kept_co2[first]);
-        let end = u16::try_from(before.taken).expect("at most 8,192 kept seconds");
-        let written = Some((first, end));
-        Some(Move { after, written })
+    after.moves = before.moves.saturating_add(1);
+    if reached.holds(before.mass) && first < next {
+        let drops_all = rules.slips(Slip::ClosingDropsAllThatWasTaken);
+        let end = if drops_all { next } else { first + 1 };
+        after.dropped = end as u64;
+        for dropped in first..end {
+            let mass = kept_co2.get(dropped).copied().unwrap_or(0);
+            after.mass = after.mass.saturating_sub(u64::from(mass));
+        }
+        after.moves -= u64::from(rules.slips(Slip::ClosingIsNoMove));
+        let closed = Some((first, next - 1));
+        Some(Move { after, closed })
     } else if next < kept_co2.len() {
         after.taken += 1;
-        after.mass += u64::from(kept_co2[next]);
-        let written = None;
-        Some(Move { after, written })
+        after.mass = before.mass.saturating_add(kept_co2[next].into());
+        let closed = None;
+        Some(Move { after, closed })
     } else {
         None
     }
 }
 
-/// Whether the sweep, replayed from its beginning, ever stands in this state.
-pub fn is_reached(kept_co2: &[u32], reference: u32, asked: SweepState) -> bool {
+/// Whether two states are the same in what is looked at.
+fn same_state(rules: &Rules, a: SweepState, b: SweepState) -> bool {
+    let looked_at = |slip: Slip| !rules.slips(slip);
+    (a.taken == b.taken || !looked_at(Slip::StateByAllButTaken))
+        && (a.dropped == b.dropped || !looked_at(Slip::StateByAllButDropped))
+        && (a.mass == b.mass || !looked_at(Slip::StateByAllButMass))
+        && (a.moves == b.moves || !looked_at(Slip::StateByAllButMoves))
+}
+
+/// 13: whether the sweep, replayed from its beginning, ever stands in this state.
+pub fn is_reached(rules: &Rules, kept_co2: &[u32], reference: u32, asked: SweepState) -> bool {
     let mut state = SweepState::default();
+    if rules.slips(Slip::BeginsWithASecondTaken) {
+        state.taken = 1;
+        state.mass = kept_co2.first().copied().map_or(0, u64::from);
+    }
     loop {
-        if state == asked {
+        let next = one_move(rules, kept_co2, reference, state);
+        let left_out = next.is_none() && rules.slips(Slip::FinishedStateRefused);
+        if same_state(rules, state, asked) && !left_out {
             return true;
         }
-        match one_move(kept_co2, reference, state) {
+        match next {
             Some(made) => state = made.after,
             None => return false,
         }
@@ -116,97 +183,124 @@ pub fn is_reached(kept_co2: &[u32], reference: u32, asked: SweepState) -> bool {
 
 /// "Sweep: 5 (its reference), 2, 6, 3, 13."
 fn refuse_sweep(
+    rules: &Rules,
     kept_co2: &[u32],
     ends: &[u16],
     reference: u32,
     state: SweepState,
 ) -> Result<(), Refusal> {
-    if !REFERENCE.contains(&reference) {
-        return Err(Refusal::new(PLAN_OUT_OF_RANGE));
+    let room = kept_co2.len() as i128 - rules.windows.places_spared;
+    let bad = |mass: &u32| !rules.ranges.co2.holds(*mass);
+    refuse(&rules.orders.sweep, |number| match number {
+        PLAN_OUT_OF_RANGE => at_0(!rules.ranges.reference.holds(reference)),
+        TOO_MANY if kept_co2.is_empty() => at_0(rules.slips(Slip::NoKeptSecondRefused)),
+        TOO_MANY => at_0(!rules.limits.sweep.holds(kept_co2.len() as i128)),
+        // "The sweep's own lane for ends needs one place per kept second".
+        LANE_TOO_SHORT => at_0((ends.len() as i128) < room),
+        OUT_OF_RANGE if rules.slips(Slip::LastBadValue) => kept_co2.iter().rposition(bad),
+        OUT_OF_RANGE => kept_co2.iter().position(bad),
+        STATE_NEVER_REACHED => at_0(!is_reached(rules, kept_co2, reference, state)),
+        _ => None,
+    })
+}
+
+/// How many moves a budget allows.
+fn allowed(rules: &Rules, budget: u64) -> u64 {
+    match rules.slip {
+        Some(Slip::BudgetOneShort) => budget.saturating_sub(1),
+        Some(Slip::BudgetOneOver) => budget.saturating_add(1),
+        Some(Slip::NoBudgetIsNoLimit) if budget == 0 => u64::MAX,
+        _ => budget,
     }
-    if kept_co2.len() > TRIP_LIMIT {
-        return Err(Refusal::new(TOO_MANY));
-    }
-    // "The sweep's own lane for ends needs one place per kept second".
-    if ends.len() < kept_co2.len() {
-        return Err(Refusal::new(LANE_TOO_SHORT));
-    }
-    if let Some(index) = kept_co2.iter().position(|mass| !CO2.contains(mass)) {
-        return Err(Refusal::at(OUT_OF_RANGE, index));
-    }
-    if !is_reached(kept_co2, reference, state) {
-        return Err(Refusal::new(STATE_NEVER_REACHED));
-    }
-    Ok(())
 }
 
 /// "A run takes a budget of moves, 0 allowed, makes exactly that many, or fewer only because the
 /// sweep is over, and answers the state and the moves made. .. a call writes only the places of
 /// windows it closes."
 pub fn sweep(
+    rules: &Rules,
     kept_co2: &[u32],
     ends: &mut [u16],
     reference: u32,
     state: SweepState,
     budget: u64,
 ) -> Result<SweepAnswer, Refusal> {
-    refuse_sweep(kept_co2, ends, reference, state)?;
+    refuse_sweep(rules, kept_co2, ends, reference, state)?;
+    if rules.slips(Slip::RestOfTheLanesCleared) {
+        ends.fill(0);
+    }
+    if rules.slips(Slip::AllWindowsWrittenAtOnce) {
+        write_ends(rules, &windows(rules, kept_co2, reference), ends);
+    }
     let mut state = state;
     let mut moves = 0;
-    while moves < budget {
-        let Some(made) = one_move(kept_co2, reference, state) else {
+    while moves < allowed(rules, budget) {
+        let Some(made) = one_move(rules, kept_co2, reference, state) else {
             break;
         };
-        if let Some((place, end)) = made.written {
-            ends[place] = end;
-        }
         state = made.after;
         moves += 1;
+        if let Some((first, last)) = made.closed {
+            write_end(rules, ends, first, last);
+            if rules.slips(Slip::RunStopsAtAWindow) {
+                break;
+            }
+        }
+    }
+    if rules.slips(Slip::MovesSinceTheBeginning) {
+        moves = state.moves;
     }
     Ok(SweepAnswer { state, moves })
 }
 
 /// "With S the sum of its speeds and n its length, mean speed is v = floor(10S/n) in 0.001 km/h."
-pub fn mean_speed(s: i128, n: i128) -> i128 {
-    (10 * s).div_euclid(n)
+pub fn mean_speed(rules: &Rules, s: i128, n: i128) -> i128 {
+    let windows = &rules.windows;
+    windows.mean_rounding.quotient(windows.mean_times * s, n)
 }
 
 /// "Urban: v < 45,000. Rural: to below 80,000. Motorway: to below 145,000. Faster windows have no
 /// class."
-pub fn class(v: i128) -> Option<usize> {
-    if v < 45_000 {
-        Some(URBAN)
-    } else if v < 80_000 {
-        Some(RURAL)
-    } else if v < 145_000 {
-        Some(MOTORWAY)
-    } else {
-        None
+pub fn class(rules: &Rules, v: i128) -> Option<usize> {
+    let classes = rules.windows.classes;
+    let found = classes.iter().position(|class| class.holds(v));
+    if found.is_none() && rules.slips(Slip::FasterWindowsAreMotorway) {
+        return Some(MOTORWAY);
     }
+    found
 }
 
 /// "Curve c, floor towards minus infinity: for v up to 56,664, E1 + floor((E2-E1)(v-18,882)/37,782),
-/// also below 18,882; beyond, E2 + floor((E3-E2)(v-56,664)/35,333)." With a positive divisor
-/// `div_euclid` is that floor.
-pub fn curve(plan: &Plan, v: i128) -> i128 {
-    let [e1, e2, e3] = [plan.e1, plan.e2, plan.e3].map(i128::from);
-    if v <= 56_664 {
-        e1 + ((e2 - e1) * (v - 18_882)).div_euclid(37_782)
-    } else {
-        e2 + ((e3 - e2) * (v - 56_664)).div_euclid(35_333)
+/// also below 18,882; beyond, E2 + floor((E3-E2)(v-56,664)/35,333)."
+pub fn curve(rules: &Rules, plan: &Plan, v: i128) -> i128 {
+    let windows = &rules.windows;
+    let line = &windows.lines[usize::from(!windows.turn.holds(v))];
+    let [e, f] = line.ends.map(|end| i128::from(plan.curve()[end]));
+    let flat = v < line.from && rules.slips(Slip::CurveFlatBelowItsFirstPoint);
+    let v = if flat { line.from } else { v };
+    let c = e + line.rounding.quotient((f - e) * (v - line.from), line.over);
+    if rules.slips(Slip::CurveWithoutSign) {
+        return c.abs();
     }
+    c
 }
 
 /// "Window figure w = floor(360,000 m / S), m its CO2 in mg."
-pub fn figure(m: i128, s: i128) -> i128 {
-    (KILOMETRE * m).div_euclid(s)
+pub fn figure(rules: &Rules, m: i128, s: i128) -> i128 {
+    let windows = &rules.windows;
+    windows.figure_rounding.quotient(windows.kilometre * m, s)
 }
 
 /// "Inside: 100w at least (100-lower)c and at most (100+upper)c."
-pub fn is_inside(w: i128, c: i128, lower: u8, upper: u8) -> bool {
-    let at_least = (100 - i128::from(lower)) * c;
-    let at_most = (100 + i128::from(upper)) * c;
-    at_least <= 100 * w && 100 * w <= at_most
+pub fn is_inside(rules: &Rules, w: i128, c: i128, lower: u8, upper: u8) -> bool {
+    let band = &rules.windows.band;
+    let at_least = (band.of_lower - i128::from(lower)) * c;
+    let at_most = (band.of_upper + i128::from(upper)) * c;
+    if c == 0 && rules.slips(Slip::ZeroCurveNeverInside) {
+        return false;
+    }
+    let figure = band.of_figure * w;
+    band.least.passes(figure.cmp(&at_least)) && band.most.passes(figure.cmp(&at_most))
 }
 
 /// What one window is judged by; one without a class is not inside.
@@ -219,19 +313,22 @@ pub struct WindowFigures {
     pub inside: bool,
 }
 
-/// "A window's seconds can be handed on as a part of the kept lanes starting at its first second."
-pub fn window_figures(plan: &Plan, speeds: &[u16], co2: &[u32]) -> WindowFigures {
-    let s: u64 = speeds.iter().map(|&speed| u64::from(speed)).sum();
-    let m: u64 = co2.iter().map(|&mass| u64::from(mass)).sum();
-    let (s, m) = (i128::from(s), i128::from(m));
-    let v = mean_speed(s, speeds.len() as i128);
-    let class = class(v);
-    let c = curve(plan, v);
-    let w = figure(m, s);
-    let inside = match class {
-        Some(class) => is_inside(w, c, plan.lower, plan.upper[class]),
-        None => false,
-    };
+/// The figures of a window with the sum s of its speeds, its CO2 m and its length n.
+pub fn figures_of_sums(rules: &Rules, plan: &Plan, s: i128, m: i128, n: i128) -> WindowFigures {
+    let v = mean_speed(rules, s, n);
+    let class = class(rules, v);
+    let c = curve(rules, plan, v);
+    let w = figure(rules, m, s);
+    let inside = class.is_some_and(|class| {
+        let upper = plan.upper[rules.windows.tolerance_of[class]];
+        let swapped = rules.slips(Slip::TolerancesExchanged);
+        let (lower, upper) = if swapped {
+            (upper, plan.lower)
+        } else {
+            (plan.lower, upper)
+        };
+        is_inside(rules, w, c, lower, upper)
+    });
     WindowFigures {
         v,
         class,
@@ -239,4 +336,11 @@ pub fn window_figures(plan: &Plan, speeds: &[u16], co2: &[u32]) -> WindowFigures
         w,
         inside,
     }
+}
+
+/// "A window's seconds can be handed on as a part of the kept lanes starting at its first second."
+pub fn window_figures(rules: &Rules, plan: &Plan, speeds: &[u16], co2: &[u32]) -> WindowFigures {
+    let s: u64 = speeds.iter().map(|&speed| u64::from(speed)).sum();
+    let m: u64 = co2.iter().map(|&mass| u64::from(mass)).sum();
+    figures_of_sums(rules, plan, s.into(), m.into(), speeds.len() as i128)
 }

@@ -1,7 +1,7 @@
 //! "Climb".
 
+use crate::as_it_stands::{climb, corrected_altitudes, is_held};
 use crate::build::{check, measured, missing_with_values, Lanes};
-use oracle::climb::{climb, corrected_altitudes, is_held};
 use oracle::second::Second;
 
 fn corrected(seconds: &[Second]) -> Vec<Option<i128>> {

@@ -1,8 +1,10 @@
 //! "Dynamics": bins, D, products, percentile, too lively, too dull.
 
+use crate::as_it_stands::{
+    bin, d_of_second, percentile, product, products, q, too_dull, too_lively,
+};
 use crate::build::{check, measured, missing_with_values, of_speeds, refused, Lanes, GUARD_32};
 use crate::random::Random;
-use oracle::dynamics::{bin, d_of_second, percentile, product, products, q, too_dull, too_lively};
 use oracle::numbers::{MOTORWAY, RURAL, URBAN};
 use oracle::second::Second;
 

@@ -1,10 +1,12 @@
 //! "Examples (a) to (l) are one table".
 
+use crate::as_it_stands::{
+    co2_mass, corrected_altitudes, curve, each_reason, figures, percentile, product, products,
+    sweep,
+};
 use crate::build::{measured, of_speeds, Lanes, PRINTED_PLAN};
-use oracle::climb::corrected_altitudes;
-use oracle::dynamics::{percentile, product, products};
-use oracle::mass::{co2_mass, Reading, Setting};
-use oracle::windows::{curve, sweep, SweepState};
+use oracle::mass::{Reading, Setting};
+use oracle::windows::SweepState;
 
 /// The ends that a sweep to its end writes, then its moves.
 fn swept(masses: &[u32], reference: u32) -> Vec<i128> {
@@ -43,10 +45,10 @@ fn climb_reason(climb: i32) -> Vec<i128> {
         .map(|i| measured(25_000, (i * 100).min(climb), 0, 0))
         .collect();
     let lanes = Lanes::of(&seconds);
-    let figures = oracle::trip::figures(&PRINTED_PLAN, lanes.trip());
+    let figures = figures(&PRINTED_PLAN, lanes.trip());
     assert_eq!(figures.total.distance, 28_800_000);
     assert_eq!(figures.climb, i128::from(climb));
-    vec![i128::from(oracle::reasons::each_reason(&figures)[10])]
+    vec![i128::from(each_reason(&figures)[10])]
 }
 
 fn percentile_1_to_101() -> Vec<i128> {

@@ -1,7 +1,8 @@
 //! One item from the front of a slice.
 
+use crate::as_it_stands::{item, paper};
 use crate::build::{check, measured, plan_bytes, refused, second_bytes, PRINTED_PLAN};
-use oracle::item::{item, item_unjudged, Item};
+use oracle::item::{front, Item};
 use oracle::second::Second;
 use oracle::Plan;
 
@@ -95,6 +96,7 @@ fn altitude_in_twos_complement() {
     for altitude in [i32::MIN, i32::MIN + 1, -1, 0, 1 << 30, i32::MAX] {
         let second = measured(0, altitude, 0, 0);
         let bytes = second_bytes(&second);
-        assert_eq!(item_unjudged(&bytes), Ok((Item::Second(second), 15)));
+        let front = front(paper(), &bytes);
+        assert_eq!((front.item, front.length), (Some(Item::Second(second)), 15));
     }
 }

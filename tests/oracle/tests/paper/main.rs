@@ -1,5 +1,6 @@
 //! The paper's sentences, tried on the independent program.
 
+mod as_it_stands;
 mod build;
 mod climb;
 mod dynamics;

@@ -1,8 +1,9 @@
 //! "From concentration to mass".
 
+use crate::as_it_stands::{co2_mass, nox_mass, reading_of_kind};
 use crate::build::refused;
 use crate::random::Random;
-use oracle::mass::{co2_mass, nox_mass, whole_part, Reading, Setting};
+use oracle::mass::{whole_part, Reading, Setting};
 use oracle::Refusal;
 
 const SETTING: Setting = Setting {
@@ -11,12 +12,12 @@ const SETTING: Setting = Setting {
     flow: 0.125,
 };
 
-fn co2_of_kind(kind: u32, value: f64, setting: Setting) -> Result<u32, Refusal> {
-    co2_mass(Reading::of_kind(kind, value)?, setting)
+fn co2_of_kind(kind: u8, value: f64, setting: Setting) -> Result<u32, Refusal> {
+    co2_mass(reading_of_kind(kind, value)?, setting)
 }
 
-fn nox_of_kind(kind: u32, value: f64, setting: Setting) -> Result<u32, Refusal> {
-    nox_mass(Reading::of_kind(kind, value)?, setting)
+fn nox_of_kind(kind: u8, value: f64, setting: Setting) -> Result<u32, Refusal> {
+    nox_mass(reading_of_kind(kind, value)?, setting)
 }
 
 /// Numbers that no range contains.
@@ -34,12 +35,12 @@ fn never_in_range() -> [f64; 7] {
 
 #[test]
 fn four_kinds_in_order() {
-    assert_eq!(Reading::of_kind(0, 1.5), Ok(Reading::WetPpm(1.5)));
-    assert_eq!(Reading::of_kind(1, 1.5), Ok(Reading::DryPpm(1.5)));
-    assert_eq!(Reading::of_kind(2, 1.5), Ok(Reading::WetPercent(1.5)));
-    assert_eq!(Reading::of_kind(3, 1.5), Ok(Reading::DryPercent(1.5)));
-    for kind in [4, 5, 255, 256, u32::MAX] {
-        assert_eq!(Reading::of_kind(kind, 1.5), refused(9, 0));
+    assert_eq!(reading_of_kind(0, 1.5), Ok(Reading::WetPpm(1.5)));
+    assert_eq!(reading_of_kind(1, 1.5), Ok(Reading::DryPpm(1.5)));
+    assert_eq!(reading_of_kind(2, 1.5), Ok(Reading::WetPercent(1.5)));
+    assert_eq!(reading_of_kind(3, 1.5), Ok(Reading::DryPercent(1.5)));
+    for kind in 4..=u8::MAX {
+        assert_eq!(reading_of_kind(kind, 1.5), refused(9, 0));
     }
 }
 
@@ -58,7 +59,7 @@ fn exact_masses_of_each_kind() {
 
 /// Kind, value, u, factor, flow and the answer, which is one below that of exact decimals: the
 /// roundings show. Answers found with exact fractions, each product rounded to the nearest f64.
-type Row = (u32, f64, f64, f64, f64, u32);
+type Row = (u8, f64, f64, f64, f64, u32);
 
 #[test]
 fn one_rounding_each_co2() {

@@ -1,5 +1,6 @@
 //! "Units and ranges", both sides of every end.
 
+use crate::as_it_stands::{in_range, paper, recorded};
 use crate::build::{check, measured, missing_with_values, PRINTED_PLAN};
 use oracle::numbers::*;
 use oracle::second::Second;
@@ -30,7 +31,7 @@ fn plan_ranges() {
     let with = |change: fn(&mut Plan, u32), value: u32| {
         let mut plan = PRINTED_PLAN;
         change(&mut plan, value);
-        plan.in_range()
+        plan.in_range(paper())
     };
     let curve_values: [fn(&mut Plan, u32); 3] = [
         |plan, value| plan.e1 = value,
@@ -66,13 +67,13 @@ fn plan_ranges() {
 #[test]
 fn second_ranges() {
     for second in [measured, check] {
-        assert!(second(0, -50_000, 0, 0).in_range());
-        assert!(second(25_000, 500_000, 100_000, 10_000_000).in_range());
-        assert!(!second(25_001, 0, 0, 0).in_range());
-        assert!(!second(0, -50_001, 0, 0).in_range());
-        assert!(!second(0, 500_001, 0, 0).in_range());
-        assert!(!second(0, 0, 100_001, 0).in_range());
-        assert!(!second(0, 0, 0, 10_000_001).in_range());
+        assert!(in_range(&second(0, -50_000, 0, 0)));
+        assert!(in_range(&second(25_000, 500_000, 100_000, 10_000_000)));
+        assert!(!in_range(&second(25_001, 0, 0, 0)));
+        assert!(!in_range(&second(0, -50_001, 0, 0)));
+        assert!(!in_range(&second(0, 500_001, 0, 0)));
+        assert!(!in_range(&second(0, 0, 100_001, 0)));
+        assert!(!in_range(&second(0, 0, 0, 10_000_001)));
     }
 }
 
@@ -83,13 +84,13 @@ fn states_are_1_2_3() {
             state,
             ..measured(0, 0, 0, 0)
         };
-        assert_eq!(second.in_range(), (1..=3).contains(&state));
-        assert_eq!(second.recorded(), state == 1 || state == 3);
+        assert_eq!(in_range(&second), (1..=3).contains(&state));
+        assert_eq!(recorded(&second), state == 1 || state == 3);
     }
 }
 
 #[test]
 fn values_of_a_missing_second_are_ignored() {
-    assert!(missing_with_values().in_range());
-    assert!(!missing_with_values().recorded());
+    assert!(in_range(&missing_with_values()));
+    assert!(!recorded(&missing_with_values()));
 }

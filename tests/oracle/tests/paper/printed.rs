@@ -1,7 +1,7 @@
 //! "The printed case", and what the program prints otherwise.
 
+use crate::as_it_stands::judge;
 use crate::build::{measured, plan_bytes, second_bytes, stream_bytes, valid_trip, PRINTED_PLAN};
-use oracle::report::judge;
 use oracle::second::Second;
 use std::fs::File;
 use std::io::Write;

@@ -1,7 +1,8 @@
 //! "The sixteen reasons": each on both sides of its border, from figures that set none.
 
+use crate::as_it_stands::{each_reason, reasons};
 use oracle::numbers::{MOTORWAY, RURAL, URBAN};
-use oracle::reasons::{each_reason, reasons, BinFigures, ClassFigures, Figures, Tally};
+use oracle::reasons::{BinFigures, ClassFigures, Figures, Tally};
 
 fn bin(seconds: i128, distance: i128, t: i128, q: i128) -> BinFigures {
     let tally = Tally {

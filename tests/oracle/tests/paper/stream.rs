@@ -1,11 +1,12 @@
 //! A whole stream into five lanes.
 
+use crate::as_it_stands::read;
 use crate::build::{
     check, measured, plan_bytes, random_second, second_bytes, stream_bytes, Lanes, PRINTED_PLAN,
 };
 use crate::random::Random;
 use oracle::second::Second;
-use oracle::stream::{read, StreamAnswer, StreamLanes};
+use oracle::stream::{StreamAnswer, StreamLanes};
 use oracle::{Plan, Refusal};
 
 /// Lanes of these lengths, filled with values that mark an untouched place.

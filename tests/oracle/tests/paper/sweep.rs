@@ -1,8 +1,9 @@
 //! The sweep, against windows found by adding.
 
+use crate::as_it_stands::{end_number, sweep, windows};
 use crate::build::{refused, GUARD_16};
 use crate::random::Random;
-use oracle::windows::{end_number, sweep, windows, SweepAnswer, SweepState};
+use oracle::windows::{SweepAnswer, SweepState};
 
 const BEGIN: SweepState = SweepState {
     taken: 0,

@@ -1,16 +1,18 @@
 //! Whole-trip evaluation.
 
+use crate::as_it_stands::{
+    d_of_second, evaluate, figures, percentile, recorded, sweep, trip_windows,
+};
 use crate::build::{
     check, measured, missing_with_values, of_speeds, random_second, refused, valid_trip, Lanes,
     Lent, GUARD_16, GUARD_32, PRINTED_PLAN,
 };
 use crate::random::Random;
-use oracle::dynamics::{d_of_second, percentile};
 use oracle::numbers::{MOTORWAY, RURAL};
 use oracle::reasons::{BinFigures, ClassFigures, Figures, Tally};
 use oracle::second::Second;
-use oracle::trip::{evaluate, figures, trip_windows, TripAnswer};
-use oracle::windows::{sweep, SweepState, WindowFigures};
+use oracle::trip::TripAnswer;
+use oracle::windows::{SweepState, WindowFigures};
 use oracle::{Plan, Refusal};
 
 fn evaluated(plan: &Plan, seconds: &[Second]) -> (TripAnswer, Lent) {
@@ -265,7 +267,7 @@ fn random_trips_agree_with_the_single_calls() {
             reference: random.between(1, 60_000) as u32,
             ..PRINTED_PLAN
         };
-        if !seconds.iter().any(Second::recorded) {
+        if !seconds.iter().any(recorded) {
             continue;
         }
         let (answer, lent) = evaluated(&plan, &seconds);

@@ -1,11 +1,12 @@
 //! Kept seconds, windows by adding, and the figures of a window.
 
+use crate::as_it_stands::{
+    class, curve, figure, is_inside, kept, mean_speed, window_figures, windows,
+};
 use crate::build::{check, measured, missing_with_values, Lanes, PRINTED_PLAN};
 use crate::random::Random;
 use oracle::numbers::{MOTORWAY, RURAL, URBAN};
-use oracle::windows::{
-    class, curve, figure, is_inside, kept, mean_speed, window_figures, windows, WindowFigures,
-};
+use oracle::windows::WindowFigures;
 use oracle::Plan;
 
 #[test]
