@@ -1,7 +1,7 @@
 //! Natural numbers of any size against numbers that fit.
 
 use crate::random::Random;
-use oracle::natural::{natural, product, sum};
+use oracle::natural::{halved, natural, product, sum};
 
 /// A number of any length up to 62 bits, often next to a turn of a digit.
 fn any_length(random: &mut Random) -> i128 {
@@ -41,6 +41,21 @@ fn beyond_128_bits() {
     assert_eq!(sum(&square, &power_128), sum(&power_254, &natural(1)));
     assert!(square < power_254);
     assert!(power_254 < product(&[most, most, 2]));
+}
+
+#[test]
+fn halved_and_small() {
+    let mut random = Random::seeded(3);
+    for _ in 0..2_000 {
+        let a = any_length(&mut random) * any_length(&mut random).max(1);
+        let times = random.between(0, 130) as usize;
+        let expected = (a as u128).checked_shr(times as u32).unwrap_or(0);
+        assert_eq!(halved(&natural(a), times).small(), Some(expected));
+    }
+    let power_128 = product(&[1 << 126, 4]);
+    assert_eq!(power_128.small(), None);
+    assert_eq!(halved(&power_128, 1).small(), Some(1 << 127));
+    assert_eq!(sum(&power_128, &natural(9)).low_half(), 9);
 }
 
 #[test]

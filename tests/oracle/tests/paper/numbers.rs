@@ -2,7 +2,9 @@
 
 use crate::as_it_stands::{in_range, paper, recorded};
 use crate::build::{check, measured, missing_with_values, PRINTED_PLAN};
+use oracle::bound::Rounding;
 use oracle::numbers::*;
+use oracle::rules::NEWEST;
 use oracle::second::Second;
 
 #[test]
@@ -24,6 +26,45 @@ fn numbers_of_refusal() {
         STATE_NEVER_REACHED,
     ];
     assert_eq!(in_order, [0, 1, 2, 3, 4, 5, 6, 7, 8, 9, 10, 11, 12, 13]);
+}
+
+#[test]
+fn releases_run_from_1_to_the_newest() {
+    let known = |number: u32| oracle::release(number).is_some();
+    assert!(!known(0));
+    assert!((1..=NEWEST).all(known));
+    assert!(!known(NEWEST + 1));
+}
+
+#[test]
+fn the_first_of_an_order_whose_condition_holds() {
+    let mut order = paper().orders.trip.clone();
+    let both = |number: u8| [6, 3].contains(&number).then_some(usize::from(number));
+    assert_eq!(refuse(&order, both), Err(Refusal::at(6, 6)));
+    assert_eq!(refuse(&order, |_| None), Ok(()));
+    // A wrong reading has 3 before 6; where 3 does not hold, it is 6 as ever.
+    order.exchanged = Some((6, 3));
+    assert_eq!(refuse(&order, both), Err(Refusal::at(3, 3)));
+    assert_eq!(
+        refuse(&order, |number| at_0(number == 6)),
+        Err(Refusal::new(6))
+    );
+}
+
+#[test]
+fn quotients_rounded_each_way() {
+    let each = [
+        Rounding::Down,
+        Rounding::Up,
+        Rounding::TowardsZero,
+        Rounding::Nearest,
+    ];
+    let of = |number: i128| each.map(|rounding| rounding.quotient(number, 10));
+    assert_eq!(of(30), [3, 3, 3, 3]);
+    assert_eq!(of(34), [3, 4, 3, 3]);
+    assert_eq!(of(36), [3, 4, 3, 4]);
+    assert_eq!(of(-34), [-4, -3, -3, -3]);
+    assert_eq!(of(-36), [-4, -3, -3, -4]);
 }
 
 #[test]
