@@ -97,8 +97,10 @@ fn tell(comparison: &mut Comparison) {
     let calls = frozen_calls(&comparison.rules);
     let table = readings(&comparison.rules);
     let told = each_told(&table, &calls);
+    let in_words = |told: bool| if told { "told" } else { "not to be told" };
     for (wrong, told) in table.iter().zip(&told) {
-        comparison.same(told.is_some(), ground(wrong).is_none(), || {
+        let wanted = in_words(ground(wrong).is_none());
+        comparison.same(in_words(told.is_some()), wanted, || {
             format!("\"{}\" read as: {}", wrong.sentence, wrong.instead)
         });
     }
