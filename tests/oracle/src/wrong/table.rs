@@ -359,7 +359,7 @@ fn lively_and_dull(t: &mut Table) {
     t.number(slow, |r| &mut r.dynamics.dull.of_sn);
     t.number("else T < 18S", |r| &mut r.dynamics.dull.of_s);
     t.side("too dull: below", |r| &mut r.dynamics.dull.too);
-    t.part("reason 1");
+    t.part("reason 12");
     t.slip("With S, N the bin's sums of speeds and seconds", "of seconds with D", Slip::SumsOfSecondsWithD);
     t.part("lively");
     t.slip("lets the low half turn over, its carry counted", "the carry is lost", Slip::CarryLost);
