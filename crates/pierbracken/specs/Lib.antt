@@ -1,6 +1,7 @@
 -- The theorems about the whole, by the demand of the paper that they serve; each proof cites that of the crate below.
 pub mod Proved
-pub mod Determined
+pub mod Calls
+pub mod FromC
 pub mod RefusedExactlyWhen
 pub mod NothingElseWritten
 pub mod Windows
