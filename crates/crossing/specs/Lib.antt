@@ -2,3 +2,4 @@
 pub mod Concentration
 pub mod Items
 pub mod Accelerations
+pub mod Outcomes

@@ -40,6 +40,9 @@ use Rattle.trip.proofs.evaluate.Reads as evaluate-call
 use Rattle.report.specs.Lines.{judgedText, refusalText, lengthWritten, bufferWritten}
 use Rattle.report.proofs.report.Reads as report-call
 use Rattle.report.proofs.report_refusal.Reads as report-refusal-call
+use Rattle.printed.specs.Printed.{printedText, keptSpeedsLeft, keptCo2Left, endsLeft, ranksLeft}
+use Rattle.printed.proofs.write_text.Reads as write-text-call
+use Rattle.stream.specs.declared.ReadAnswer.{ReadAnswer}
 
 -- `Pre` and `Post` of a call are its contract, read by the toolchain from `src/`: what it asks of the inputs, and which result
 -- and which parameters at exit it allows for them. A parameter is named by its place in the parameter list: `.0` the first,
@@ -82,6 +85,11 @@ pub record StreamLanes : Type 0 where
   pub co2 : List ℕ
   pub nox : List ℕ
 
+-- equal lane by lane
+pub five-lanes : {x y : StreamLanes} → (x .states ≡ y .states) × ((x .speeds ≡ y .speeds) × ((x .altitudes ≡ y .altitudes) × ((x .co2 ≡ y .co2) × (x .nox ≡ y .nox)))) → x ≡ y
+five-lanes same i =
+    record { states = same .0 i; speeds = same .1 .0 i; altitudes = same .1 .1 .0 i; co2 = same .1 .1 .1 .0 i; nox = same .1 .1 .1 .1 i }
+
 abbrev pub roomIn : StreamLanes → ℕ
 roomIn lent = roomOf (lent .states) (lent .speeds) (lent .altitudes) (lent .co2) (lent .nox)
 
@@ -107,7 +115,7 @@ pub read-stream : ReadsStream read-stream-call.Pre read-stream-call.Post
 read-stream =
     record {
       takes-all = λ κs a. tt;
-      means = λ κs a x e p. (p .0, λ i. record { states = p .1 .0 i; speeds = p .1 .1 .0 i; altitudes = p .1 .1 .1 .0 i; co2 = p .1 .1 .1 .1 .0 i; nox = p .1 .1 .1 .1 .1 i });
+      means = λ κs a x e p. (p .0, five-lanes (p .1));
     }
 
 -- ---- the stream in blocks
@@ -140,7 +148,7 @@ pub feed : Feeds feed-call.Pre feed-call.Post
 feed =
     record {
       takes-all = λ κs a. tt;
-      means = λ κs a x e p. (p .0, λ i. record { states = p .1 .0 i; speeds = p .1 .1 .0 i; altitudes = p .1 .1 .1 .0 i; co2 = p .1 .1 .1 .1 .0 i; nox = p .1 .1 .1 .1 .1 i });
+      means = λ κs a x e p. (p .0, five-lanes (p .1));
     }
 
 abbrev pub Ends : contract.In 0 end-kinds.ps → contract.Out 0 end-kinds.ps end-kinds.r → Type 0
@@ -172,6 +180,9 @@ pub record TripLanes : Type 0 where
   pub ends : List ℕ
   pub ranks : List ℕ
 
+pub four-lanes : {x y : TripLanes} → (x .kept-speeds ≡ y .kept-speeds) × ((x .kept-co2 ≡ y .kept-co2) × ((x .ends ≡ y .ends) × (x .ranks ≡ y .ranks))) → x ≡ y
+four-lanes same i = record { kept-speeds = same .0 i; kept-co2 = same .1 .0 i; ends = same .1 .1 .0 i; ranks = same .1 .1 .1 i }
+
 abbrev pub roomsIn : TripLanes → Rooms
 roomsIn lent = roomsOf (lent .kept-speeds) (lent .kept-co2) (lent .ends) (lent .ranks)
 
@@ -196,7 +207,7 @@ pub evaluate : Evaluates evaluate-call.Pre evaluate-call.Post
 evaluate =
     record {
       takes-all = λ κs a. tt;
-      means = λ κs a x e p. (p .0, λ i. record { kept-speeds = p .1 .0 i; kept-co2 = p .1 .1 .0 i; ends = p .1 .1 .1 .0 i; ranks = p .1 .1 .1 .1 i });
+      means = λ κs a x e p. (p .0, four-lanes (p .1));
     }
 
 -- ---- the printed lines, written into a buffer
@@ -205,3 +216,31 @@ report = record { takes-all = λ κs a. tt; means = λ κs a x e p. p }
 
 pub report-refusal : Answers (List ℕ) report-refusal-call.Pre report-refusal-call.Post (λ κs a. lengthWritten (refusalText (a .0) (a .1 .0)) (a .1 .1 .0 .now)) (λ κs e. e .1 .1 .0 .now) (λ κs a. bufferWritten (refusalText (a .0) (a .1 .0)) (a .1 .1 .0 .now))
 report-refusal = record { takes-all = λ κs a. tt; means = λ κs a x e p. p }
+
+-- what is printed for a stream that was read into five lanes, the second to the sixth parameter: the four lanes lent to its evaluation
+-- and the buffer are left so
+pub record PrintLanes : Type 0 where
+  pub trip : TripLanes
+  pub buffer : List ℕ
+
+abbrev pub printLeft : ReadAnswer → Lanes → TripLanes → List ℕ → PrintLanes
+printLeft read lanes lent buffer =
+    record {
+      trip = record {
+        kept-speeds = keptSpeedsLeft read lanes (roomsIn lent) (lent .kept-speeds);
+        kept-co2 = keptCo2Left read lanes (roomsIn lent) (lent .kept-co2);
+        ends = endsLeft read lanes (roomsIn lent) (lent .ends);
+        ranks = ranksLeft read lanes (roomsIn lent) (lent .ranks);
+      };
+      buffer = bufferWritten (printedText read lanes (roomsIn lent)) buffer;
+    }
+
+pub write-text : Answers PrintLanes write-text-call.Pre write-text-call.Post
+    (λ κs a. lengthWritten (printedText (a .0) (lanesOf (a .1 .0 .now) (a .1 .1 .0 .now) (a .1 .1 .1 .0 .now) (a .1 .1 .1 .1 .0 .now) (a .1 .1 .1 .1 .1 .0 .now)) (roomsOf (a .1 .1 .1 .1 .1 .1 .0 .now) (a .1 .1 .1 .1 .1 .1 .1 .0 .now) (a .1 .1 .1 .1 .1 .1 .1 .1 .0 .now) (a .1 .1 .1 .1 .1 .1 .1 .1 .1 .0 .now))) (a .1 .1 .1 .1 .1 .1 .1 .1 .1 .1 .0 .now))
+    (λ κs e. record { trip = record { kept-speeds = e .1 .1 .1 .1 .1 .1 .0 .now; kept-co2 = e .1 .1 .1 .1 .1 .1 .1 .0 .now; ends = e .1 .1 .1 .1 .1 .1 .1 .1 .0 .now; ranks = e .1 .1 .1 .1 .1 .1 .1 .1 .1 .0 .now }; buffer = e .1 .1 .1 .1 .1 .1 .1 .1 .1 .1 .0 .now })
+    (λ κs a. printLeft (a .0) (lanesOf (a .1 .0 .now) (a .1 .1 .0 .now) (a .1 .1 .1 .0 .now) (a .1 .1 .1 .1 .0 .now) (a .1 .1 .1 .1 .1 .0 .now)) (record { kept-speeds = a .1 .1 .1 .1 .1 .1 .0 .now; kept-co2 = a .1 .1 .1 .1 .1 .1 .1 .0 .now; ends = a .1 .1 .1 .1 .1 .1 .1 .1 .0 .now; ranks = a .1 .1 .1 .1 .1 .1 .1 .1 .1 .0 .now }) (a .1 .1 .1 .1 .1 .1 .1 .1 .1 .1 .0 .now))
+write-text =
+    record {
+      takes-all = λ κs a. tt;
+      means = λ κs a x e p. (p .0, λ i. record { trip = four-lanes {x = record { kept-speeds = e .1 .1 .1 .1 .1 .1 .0 .now; kept-co2 = e .1 .1 .1 .1 .1 .1 .1 .0 .now; ends = e .1 .1 .1 .1 .1 .1 .1 .1 .0 .now; ranks = e .1 .1 .1 .1 .1 .1 .1 .1 .1 .0 .now }} (p .1 .1 .1) i; buffer = p .1 .0 i });
+    }

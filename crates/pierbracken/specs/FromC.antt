@@ -24,14 +24,14 @@ use Rattle.capi.proofs.sweeping.pb_sweep.Reads as pb-sweep-call
 use Rattle.capi.proofs.accelerations.pb_acceleration.Reads as pb-acceleration-call
 use Rattle.capi.proofs.accelerations.pb_percentile.Reads as pb-percentile-call
 use Rattle.capi.proofs.trips.pb_evaluate.Reads as pb-evaluate-call
-use Rattle.pierbracken.specs.Calls.{Answers, Gives, ReadsStream, Starts, Feeds, Ends, Sweeps, Evaluates}
+use Rattle.pierbracken.specs.Calls.{Answers, Gives, five-lanes, four-lanes, ReadsStream, Starts, Feeds, Ends, Sweeps, Evaluates}
 
 -- ---- the calls that answer as those of the library do, in the same words
 pub pb-read : ReadsStream pb-read-call.Pre pb-read-call.Post
 pb-read =
     record {
       takes-all = λ κs a. tt;
-      means = λ κs a x e p. (p .0, λ i. record { states = p .1 .0 i; speeds = p .1 .1 .0 i; altitudes = p .1 .1 .1 .0 i; co2 = p .1 .1 .1 .1 .0 i; nox = p .1 .1 .1 .1 .1 i });
+      means = λ κs a x e p. (p .0, five-lanes (p .1));
     }
 
 pub pb-start : Starts pb-start-call.Pre pb-start-call.Post
@@ -41,7 +41,7 @@ pub pb-feed : Feeds pb-feed-call.Pre pb-feed-call.Post
 pb-feed =
     record {
       takes-all = λ κs a. tt;
-      means = λ κs a x e p. (p .0, λ i. record { states = p .1 .0 i; speeds = p .1 .1 .0 i; altitudes = p .1 .1 .1 .0 i; co2 = p .1 .1 .1 .1 .0 i; nox = p .1 .1 .1 .1 .1 i });
+      means = λ κs a x e p. (p .0, five-lanes (p .1));
     }
 
 pub pb-end : Ends pb-end-call.Pre pb-end-call.Post
@@ -54,7 +54,7 @@ pub pb-evaluate : Evaluates pb-evaluate-call.Pre pb-evaluate-call.Post
 pb-evaluate =
     record {
       takes-all = λ κs a. tt;
-      means = λ κs a x e p. (p .0, λ i. record { kept-speeds = p .1 .0 i; kept-co2 = p .1 .1 .0 i; ends = p .1 .1 .1 .0 i; ranks = p .1 .1 .1 .1 i });
+      means = λ κs a x e p. (p .0, four-lanes (p .1));
     }
 
 -- ---- those whose answer crosses as a struct, and the release

@@ -7,5 +7,6 @@ pub mod NothingElseWritten
 pub mod Windows
 pub mod Verdict
 pub mod Sums
+pub mod Dynamics
 pub mod Blocks
 pub mod Examples

@@ -41,10 +41,12 @@ use Rattle.trip.specs.Trip.{answerOf, refused}
 use Rattle.trip.specs.Outcomes as trip-outcomes
 use Rattle.trip.proofs.Refused as trip
 use Rattle.trip.proofs.Theorems as trips
+use Rattle.pierbracken.specs.Calls.{Answers}
 
 -- `Outcome` and `Given`, in the `specs/Outcomes` of each crate, have a constructor for each number of refusal, in the order of the
 -- call, with the conditions of that number; the last one is that of an accepted call. A fault is a number and a place.
 
+-- ---- the definitions
 -- what is said of one of two equal answers is said of the other
 through {ℓ} : {A : Type ℓ} {P : A → Type 0} {a b : A} → a ≡ b → ((x : A) → (b ≡ x) ↔ P x) → (x : A) → (a ≡ x) ↔ P x
 through e says x = (λ p. says x .0 (sym e ∙ p), λ h. e ∙ says x .1 h)
@@ -86,6 +88,16 @@ ranking values places = through (percentile.answer-fault values places) (percent
 -- "Trip: 5, 1, 2, 6, 3, 4"
 pub whole-trip : (plan : Plan) (lanes : Lanes) (rooms : Rooms) (given : Fault) → (fault (answerOf plan lanes rooms .refusal) (answerOf plan lanes rooms .place) ≡ given) ↔ trip-outcomes.Given plan lanes rooms given
 whole-trip plan lanes rooms = through (trip.answer-fault plan lanes rooms) (trip.refused-exactly plan lanes rooms)
+
+-- ---- the calls
+-- every result that a contract allows, seen by `look`, is y exactly when `outcome` holds of y
+abbrev pub RefusedAs : {Y L : Type 0} {In Out Exit : L → Type 0} → ((κs : L) → In κs → Out κs → Exit κs → Type 0) → ((κs : L) → Out κs → Y) → ((κs : L) → In κs → Y → Type 0) → Type 0
+RefusedAs {Y} {L} {In} {Out} {Exit} allows look outcome =
+    (κs : L) (inputs : In κs) (x : Out κs) (e : Exit κs) → allows κs inputs x e → (y : Y) → (look κs x ≡ y) ↔ outcome κs inputs y
+
+-- a law of the definition holds of the call
+of-call : {Y Left L : Type 0} {In Out Exit : L → Type 0} {asks : (κs : L) → In κs → Type 0} {allows : (κs : L) → In κs → Out κs → Exit κs → Type 0} {answer : (κs : L) → In κs → Out κs} {at-exit : (κs : L) → Exit κs → Left} {left : (κs : L) → In κs → Left} → Answers Left asks allows answer at-exit left → (look : (κs : L) → Out κs → Y) (outcome : (κs : L) → In κs → Y → Type 0) → ((κs : L) (inputs : In κs) (y : Y) → (look κs (answer κs inputs) ≡ y) ↔ outcome κs inputs y) → RefusedAs allows look outcome
+of-call call look outcome law κs inputs x e p = through (λ i. look κs (call .means κs inputs x e p .0 i)) (law κs inputs)
 
 -- ---- "A refusal returns its number and a place .., with all other results zero": the stream's `Outcome` says so of its own
 pub no-mass : (answer : Weighed) → (masses.refusalOf answer ≡ 0 → ⊥) → masses.wholeMassOf answer ≡ 0

@@ -14,6 +14,7 @@ use Rattle.sweep.specs.Outcomes.{Accepted}
 use Rattle.sweep.specs.Runs.{IsWindow, Spent, Resumed, Whole}
 use Rattle.sweep.proofs.Windows as runs
 use Rattle.sweep.proofs.Finished as finished
+use Rattle.sweep.proofs.Reached as reached
 use Rattle.sweep.proofs.Theorems as sweep
 
 -- ---- what a window is
@@ -43,6 +44,10 @@ module _ (reference : ℕ) (co2 ends : List ℕ) where
   -- "makes exactly that many, or fewer only because the sweep is over"
   pub budget-used : (state : SweepState) → Accepted reference co2 (length ends) state → (budget : ℕ) → Spent budget (sweepAnswer reference co2 (length ends) state budget)
   budget-used = sweep.spent reference co2 ends
+
+  -- the moves of a call are the change of the state's moves
+  pub moves-counted : (state : SweepState) → Accepted reference co2 (length ends) state → (budget : ℕ) → sweepAnswer reference co2 (length ends) state budget .state .moves ≡ state .moves + sweepAnswer reference co2 (length ends) state budget .moves
+  moves-counted state accepted budget = rw (sweep.run-answered reference co2 ends state accepted budget) (reached.moves-counted reference co2 budget state)
 
   -- with budget enough from the beginning: it is over, has made kept plus windows moves, and the lane holds the end of every window
   pub run-to-its-end : (budget : ℕ) → Accepted reference co2 (length ends) beginning → length co2 + length co2 ≤ budget → Whole reference co2 ends (sweepEnds reference co2 ends beginning budget) (sweepAnswer reference co2 (length ends) beginning budget)

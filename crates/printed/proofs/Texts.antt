@@ -1,10 +1,10 @@
 -- The text and the lent lanes, of a refusal and of what is not refused. Assumes nothing.
-use Prim.Native.Nat.{ℕ, _≤_}
+use Prim.Native.Nat.{ℕ, _≤_, _<_}
 use mathlib.Core.Path.{_≡_, refl}
 use mathlib.Core.Bool.{Bool, true, false}
 use mathlib.Core.List.{List}
 use native.Mathlib.Omega.{arith}
-use lib.Dec.{leb}
+use lib.Dec.{leb, eqb}
 use lib.ListN.{length, drop, length-append}
 use borrow.Author.Tests.{eq-eqb, ne-eqb}
 use Rattle.base.specs.Refusal.{accepted}
@@ -16,6 +16,7 @@ use Rattle.trip.specs.declared.Rooms.{Rooms}
 use Rattle.trip.specs.Trip.{answerOf}
 use Rattle.trip.specs.Lent.{keptSpeedsLane, keptCo2Lane, endsLane, ranksLane}
 use Rattle.report.specs.Lines.{judgedText, refusalText, lengthWritten, bufferWritten}
+use Rattle.report.proofs.Theorems.{judged-some, refusal-some}
 use Rattle.printed.specs.Printed.{firstSeconds, linesOf, tripText, printedText, keptSpeedsLeft, keptCo2Left, endsLeft, ranksLeft}
 
 -- ---- a trip's answer
@@ -80,3 +81,19 @@ written-inside text buffer = go (leb (length text) (length buffer))
     go : (fits : Bool) → pick fits (length text) 0 ≤ length (pick fits (withFront text buffer) buffer)
     go true = omega (arith, length-append text (drop (length text) buffer))
     go false = omega arith
+
+-- ---- no text is empty
+either-some : (t : Bool) (a b : List ℕ) → 0 < length a → 0 < length b → 0 < length (pick t a b)
+either-some true a b some other = some
+either-some false a b some other = other
+
+trip-some : (trip : Evaluated) → 0 < length (tripText trip)
+unfolding tripText
+trip-some trip =
+    either-some (eqb (trip .refusal) accepted) (judgedText (linesOf trip)) (refusalText (trip .refusal) (trip .place)) (judged-some (linesOf trip)) (refusal-some (trip .refusal) (trip .place))
+
+pub text-some : (read : ReadAnswer) (lanes : Lanes) (rooms : Rooms) → 0 < length (printedText read lanes rooms)
+unfolding printedText
+text-some read lanes rooms =
+    let trip = answerOf (read .plan) (firstSeconds (read .seconds) lanes) rooms in
+    either-some (eqb (read .refusal) accepted) (tripText trip) (refusalText (read .refusal) (read .place)) (trip-some trip) (refusal-some (read .refusal) (read .place))

@@ -3,6 +3,7 @@ use Prim.Native.Nat.{ℕ, _<_, _≤_}
 use mathlib.Core.Path.{_≡_, refl, _∙_}
 use mathlib.Core.Bool.{Bool, true, false}
 use mathlib.Core.List.{List}
+use mathlib.Core.Logic.{_↔_}
 use native.Mathlib.Nat.{zero-add}
 use native.Mathlib.Omega.{arith}
 use lib.Dec.{leb}
@@ -56,3 +57,6 @@ zero-says-short text b some none = go (leb (length text) (length b)) refl none
     go : (t : Bool) → leb (length text) (length b) ≡ t → pick t (length text) 0 ≡ 0 → length b < length text
     go true q e = absurd (omega arith)
     go false q e = leb-false (length text) (length b) q
+
+pub zero-exactly : (text b : List ℕ) → 0 < length text → (lengthWritten text b ≡ 0) ↔ (length b < length text)
+zero-exactly text b some = (zero-says-short text b some, short-length text b)

@@ -12,7 +12,7 @@ use Rattle.report.specs.declared.Judged.{Judged}
 use Rattle.text.specs.Text.{bytes, digit, decimalUpTo, decimal, hex}
 use Rattle.report.specs.Lines.{countLines, classLines, reasonsLine, judgedText, refusalText, lengthWritten, bufferWritten, longestText}
 use Rattle.report.proofs.Lengths.{Words, judged-length, refusal-length, judged-longest, refusal-longest}
-use Rattle.report.proofs.Fitting.{fits-length, fits-buffer, zero-says-short}
+use Rattle.report.proofs.Fitting.{fits-length, fits-buffer}
 
 -- the numbers of the printed case
 pub printedCase : Judged
@@ -44,12 +44,12 @@ judged-suffices t buffer w room = fits-length (judgedText t) buffer (le-trans (j
 pub refusal-suffices : (number place : ℕ) (buffer : List ℕ) → number < 2 ^ 64 → place < 2 ^ 64 → longestText ≤ length buffer → lengthWritten (refusalText number place) buffer ≡ length (refusalText number place)
 refusal-suffices number place buffer n p room = fits-length (refusalText number place) buffer (le-trans (refusal-longest number place n p) room)
 
--- the answer 0 says that the text does not fit
-pub judged-zero : (t : Judged) (buffer : List ℕ) → lengthWritten (judgedText t) buffer ≡ 0 → length buffer < length (judgedText t)
-judged-zero t buffer = zero-says-short (judgedText t) buffer (omega (arith, judged-length t))
+-- the answer 0 says exactly that the text does not fit: no text is empty
+pub judged-some : (t : Judged) → 0 < length (judgedText t)
+judged-some t = omega (arith, judged-length t)
 
-pub refusal-zero : (number place : ℕ) (buffer : List ℕ) → lengthWritten (refusalText number place) buffer ≡ 0 → length buffer < length (refusalText number place)
-refusal-zero number place buffer = zero-says-short (refusalText number place) buffer (omega (arith, refusal-length number place))
+pub refusal-some : (number place : ℕ) → 0 < length (refusalText number place)
+refusal-some number place = omega (arith, refusal-length number place)
 
 -- a text that fits stands in the first places and changes no other; that one that does not fit changes nothing is `short-buffer`
 pub text-written : (text buffer : List ℕ) → length text ≤ length buffer → InFront text (length text) buffer (bufferWritten text buffer)
