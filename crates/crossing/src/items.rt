@@ -37,7 +37,7 @@ pub fn item(bytes: &[u8]) -> ItemAnswer
 }
 
 // What an item holds: its kind byte, and the values or the plan of its kind.
-pub struct Contents {
+struct Contents {
     pub kind: u8,
     pub values: Values,
     pub plan: Plan,
