@@ -6,6 +6,7 @@ pub mod accelerations;
 pub mod concentration;
 pub mod feeding;
 pub mod meaning;
+pub mod reasons;
 pub mod streams;
 pub mod sweeping;
 pub mod trips;

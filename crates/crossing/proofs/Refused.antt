@@ -13,12 +13,15 @@ use Rattle.mass.specs.declared.Weighed.the-variants.{Mass, BadInput, TooLarge}
 use Rattle.mass.specs.Mass.{massAnswer, refusalOf, wholeMassOf, placeOf}
 use Rattle.mass.specs.Outcomes as mass
 use Rattle.mass.proofs.Theorems as masses
+use Rattle.item.specs.declared.Front.{Front}
+use Rattle.item.specs.Item as items
 use Rattle.acceleration.specs.declared.Acceleration.{Acceleration}
 use Rattle.acceleration.specs.declared.Acceleration.the-variants.{Rising, Falling, None, Refused}
 use Rattle.acceleration.specs.D as d
 use Rattle.percentile.specs.declared.Answer.{Answer}
 use Rattle.percentile.specs.Percentile as percentiles
 use Rattle.crossing.specs.Concentration.{readingOf, massAcross, answerOf}
+use Rattle.crossing.specs.Items.{noContents, contentsAt, itemAnswer, frontAcross}
 use Rattle.crossing.specs.Accelerations.{riseOf, fallOf, accelerationAcross, percentileAcross}
 use Rattle.crossing.specs.Outcomes.{Outcome, no-kind, bad-input, too-large, fine}
 use Rattle.crossing.proofs.Readings.{unknown-kind, known-kind}
@@ -63,6 +66,14 @@ unfolding answerOf refusalOf wholeMassOf placeOf
 mass-zeros (Mass m) refused = absurd (refused refl)
 mass-zeros BadInput refused = refl
 mass-zeros TooLarge refused = refl
+
+pub item-zeros : (front : Front) → (items.refusalOf front ≡ 0 → ⊥) → frontAcross front ≡ itemAnswer (items.refusalOf front) noContents 0 0
+unfolding frontAcross contentsAt items.refusalOf items.lengthOf items.placeOf
+item-zeros (Front.Whole item size) refused = absurd (refused refl)
+item-zeros Front.UnknownKind refused = refl
+item-zeros Front.Cut refused = refl
+item-zeros Front.PlanOutOfRange refused = refl
+item-zeros Front.OutOfRange refused = refl
 
 pub acceleration-zeros : (found : Acceleration) → (d.refusalOf found ≡ 0 → ⊥) → accelerationAcross found ≡ record { refusal = d.refusalOf found; «has_d» = false; rise = 0; fall = 0; place = d.placeOf found }
 unfolding accelerationAcross riseOf fallOf d.refusalOf d.placeOf d.isNumber

@@ -1,40 +1,41 @@
--- One item crosses as one struct: its kind byte, the values or the plan of its kind, its length, and zeros for all else.
+-- One item crosses as one struct: the paper's number, length and place of what stands at the front of the bytes, and what the item holds.
 use Prim.Native.Nat.{ℕ}
 use lib.IntN.{pos}
-use Rattle.base.specs.declared.Plan.{Plan}
-use Rattle.base.specs.Refusal.{accepted, outOfRange, planOutOfRange, cutItem, unknownKind}
 use Rattle.item.specs.declared.Values.{Values}
 use Rattle.item.specs.declared.Item.{Item}
 use Rattle.item.specs.declared.Front.{Front}
+use Rattle.item.specs.Item.{refusalOf, placeOf, lengthOf}
 use Rattle.stream.specs.Items.{noPlan}
+use Rattle.crossing.specs.declared.items.Contents.{Contents}
 use Rattle.crossing.specs.declared.items.ItemAnswer.{ItemAnswer}
 
--- a second of a kind with values, and with none
-abbrev pub secondAcross : ℕ → Values → ℕ → ItemAnswer
-secondAcross kind v length =
-    record { refusal = accepted; kind = kind; speed = v .speed; altitude = v .altitude; co2 = v .co2; nox = v .nox; plan = noPlan; length = length; place = 0 }
-
+-- all zeros, where there are no values
 abbrev pub noValues : Values
 noValues = record { speed = 0; altitude = pos 0; co2 = 0; nox = 0 }
 
-abbrev pub planAcross : Plan → ℕ → ItemAnswer
-planAcross plan length =
-    record { refusal = accepted; kind = 0x10; speed = 0; altitude = pos 0; co2 = 0; nox = 0; plan = plan; length = length; place = 0 }
+-- what an item holds: its kind byte, and the values or the plan of its kind
+unfoldable pub contentsOf : Item → Contents
+contentsOf (Item.Plan plan) = record { kind = 0x10; values = noValues; plan = plan }
+contentsOf (Item.Measured values) = record { kind = 0x01; values = values; plan = noPlan }
+contentsOf Item.Missing = record { kind = 0x02; values = noValues; plan = noPlan }
+contentsOf (Item.Check values) = record { kind = 0x03; values = values; plan = noPlan }
 
-unfoldable pub itemAcross : Item → ℕ → ItemAnswer
-itemAcross (Item.Plan plan) length = planAcross plan length
-itemAcross (Item.Measured values) length = secondAcross 0x01 values length
-itemAcross Item.Missing length = secondAcross 0x02 noValues length
-itemAcross (Item.Check values) length = secondAcross 0x03 values length
+-- zeros, where the front is refused
+abbrev pub noContents : Contents
+noContents = record { kind = 0; values = noValues; plan = noPlan }
 
--- a refusal: its number, and zeros
-abbrev pub refusedAcross : ℕ → ItemAnswer
-refusedAcross number =
-    record { refusal = number; kind = 0; speed = 0; altitude = pos 0; co2 = 0; nox = 0; plan = noPlan; length = 0; place = 0 }
+unfoldable pub contentsAt : Front → Contents
+contentsAt (Front.Whole item size) = contentsOf item
+contentsAt Front.UnknownKind = noContents
+contentsAt Front.Cut = noContents
+contentsAt Front.PlanOutOfRange = noContents
+contentsAt Front.OutOfRange = noContents
+
+-- the answer's struct
+abbrev pub itemAnswer : ℕ → Contents → ℕ → ℕ → ItemAnswer
+itemAnswer refusal contents length place =
+    let values = contents .values in
+    record { refusal = refusal; kind = contents .kind; speed = values .speed; altitude = values .altitude; co2 = values .co2; nox = values .nox; plan = contents .plan; length = length; place = place }
 
 unfoldable pub frontAcross : Front → ItemAnswer
-frontAcross (Front.Whole item length) = itemAcross item length
-frontAcross Front.UnknownKind = refusedAcross unknownKind
-frontAcross Front.Cut = refusedAcross cutItem
-frontAcross Front.PlanOutOfRange = refusedAcross planOutOfRange
-frontAcross Front.OutOfRange = refusedAcross outOfRange
+frontAcross front = itemAnswer (refusalOf front) (contentsAt front) (lengthOf front) (placeOf front)

@@ -2,7 +2,7 @@
 
 ghost use mathlib.Core.Path.{_≡_};
 ghost use Rattle.item.specs.Item.{itemOf};
-ghost use Rattle.crossing.specs.Items.{secondAcross, planAcross, itemAcross, refusedAcross, frontAcross};
+ghost use Rattle.crossing.specs.Items.{contentsOf, itemAnswer, frontAcross};
 use base::Plan;
 use item::Front;
 use item::Item;
@@ -28,24 +28,19 @@ pub fn item(bytes: &[u8]) -> ItemAnswer
 {
     let front = item::read_item(bytes);
     match front {
-        Front::Whole { item, size } => whole(item, size),
-        Front::UnknownKind => refused(base::refusal::UNKNOWN_KIND),
-        Front::Cut => refused(base::refusal::CUT_ITEM),
-        Front::PlanOutOfRange => refused(base::refusal::PLAN_OUT_OF_RANGE),
-        Front::OutOfRange => refused(base::refusal::OUT_OF_RANGE),
+        Front::Whole { item, size } => answer(base::refusal::ACCEPTED, contents_of(item), size),
+        Front::UnknownKind => answer(base::refusal::UNKNOWN_KIND, NO_CONTENTS, 0),
+        Front::Cut => answer(base::refusal::CUT_ITEM, NO_CONTENTS, 0),
+        Front::PlanOutOfRange => answer(base::refusal::PLAN_OUT_OF_RANGE, NO_CONTENTS, 0),
+        Front::OutOfRange => answer(base::refusal::OUT_OF_RANGE, NO_CONTENTS, 0),
     }
 }
 
-// An item as it crosses.
-fn whole(item: Item, length: usize) -> ItemAnswer
-    ensures { λ r. ⌜ r ≡ itemAcross item length ⌝ }
-{
-    match item {
-        Item::Plan(plan) => planned(plan, length),
-        Item::Measured(values) => second(item::kind::MEASURED, values, length),
-        Item::Missing => second(item::kind::MISSING, NO_VALUES, length),
-        Item::Check(values) => second(item::kind::CHECK, values, length),
-    }
+// What an item holds: its kind byte, and the values or the plan of its kind.
+struct Contents {
+    pub kind: u8,
+    pub values: Values,
+    pub plan: Plan,
 }
 
 const NO_VALUES: Values = Values {
@@ -66,54 +61,56 @@ const NO_PLAN: Plan = Plan {
     motorway: 0,
 };
 
-// A second of a kind as it crosses.
-fn second(kind: u8, values: Values, length: usize) -> ItemAnswer
-    ensures { λ r. ⌜ r ≡ secondAcross kind values length ⌝ }
+const NO_CONTENTS: Contents = Contents {
+    kind: 0,
+    values: NO_VALUES,
+    plan: NO_PLAN,
+};
+
+// The contents of an item, a row for each kind.
+fn contents_of(item: Item) -> Contents
+    ensures { λ r. ⌜ r ≡ contentsOf item ⌝ }
 {
+    match item {
+        Item::Plan(plan) => Contents {
+            kind: item::kind::PLAN,
+            values: NO_VALUES,
+            plan: plan,
+        },
+        Item::Measured(values) => Contents {
+            kind: item::kind::MEASURED,
+            values: values,
+            plan: NO_PLAN,
+        },
+        Item::Missing => Contents {
+            kind: item::kind::MISSING,
+            values: NO_VALUES,
+            plan: NO_PLAN,
+        },
+        Item::Check(values) => Contents {
+            kind: item::kind::CHECK,
+            values: values,
+            plan: NO_PLAN,
+        },
+    }
+}
+
+// The answer as it crosses.
+fn answer(refusal: u8, contents: Contents, length: usize) -> ItemAnswer
+    ensures { λ r. ⌜ r ≡ itemAnswer refusal contents length 0 ⌝ }
+{
+    let values = contents.values;
     let altitude = values.altitude;
+    let plan = contents.plan;
     ItemAnswer {
-        refusal: base::refusal::ACCEPTED,
-        kind: kind,
+        refusal: refusal,
+        kind: contents.kind,
         speed: values.speed,
         altitude: altitude,
         co2: values.co2,
         nox: values.nox,
-        plan: NO_PLAN,
-        length: length,
-        place: 0,
-    }
-}
-
-// A plan as it crosses.
-fn planned(plan: Plan, length: usize) -> ItemAnswer
-    ensures { λ r. ⌜ r ≡ planAcross plan length ⌝ }
-{
-    ItemAnswer {
-        refusal: base::refusal::ACCEPTED,
-        kind: item::kind::PLAN,
-        speed: 0,
-        altitude: 0,
-        co2: 0,
-        nox: 0,
         plan: plan,
         length: length,
-        place: 0,
-    }
-}
-
-// A refusal as it crosses.
-fn refused(number: u8) -> ItemAnswer
-    ensures { λ r. ⌜ r ≡ refusedAcross number ⌝ }
-{
-    ItemAnswer {
-        refusal: number,
-        kind: 0,
-        speed: 0,
-        altitude: 0,
-        co2: 0,
-        nox: 0,
-        plan: NO_PLAN,
-        length: 0,
         place: 0,
     }
 }

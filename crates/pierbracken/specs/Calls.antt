@@ -37,6 +37,9 @@ use Rattle.trip.specs.Trip.{answerOf}
 use Rattle.trip.specs.Lent.{keptSpeedsLane, keptCo2Lane, endsLane, ranksLane}
 use Rattle.trip.proofs.evaluate.Kinds as trip-kinds
 use Rattle.trip.proofs.evaluate.Reads as evaluate-call
+use Rattle.verdict.specs.Verdict.{hasAny}
+use Rattle.verdict.proofs.has_reason.Kinds as reason-kinds
+use Rattle.verdict.proofs.has_reason.Reads as has-reason-call
 use Rattle.report.specs.Lines.{judgedText, refusalText, lengthWritten, bufferWritten}
 use Rattle.report.proofs.report.Reads as report-call
 use Rattle.report.proofs.report_refusal.Reads as report-refusal-call
@@ -209,6 +212,13 @@ evaluate =
       takes-all = λ κs a. tt;
       means = λ κs a x e p. (p .0, four-lanes (p .1));
     }
+
+-- ---- the reasons of a verdict: a verdict and a mask
+abbrev pub TestsReason : contract.In 0 reason-kinds.ps → contract.Out 0 reason-kinds.ps reason-kinds.r → Type 0
+TestsReason asks allows = Gives asks allows (λ κs a. hasAny (a .0) (a .1 .0))
+
+pub has-reason : TestsReason has-reason-call.Pre has-reason-call.Post
+has-reason = record { takes-all = λ κs a. tt; means = λ κs a x e p. (p, refl) }
 
 -- ---- the printed lines, written into a buffer
 pub report : Answers (List ℕ) report-call.Pre report-call.Post (λ κs a. lengthWritten (judgedText (a .0)) (a .1 .0 .now)) (λ κs e. e .1 .0 .now) (λ κs a. bufferWritten (judgedText (a .0)) (a .1 .0 .now))

@@ -24,7 +24,8 @@ use Rattle.capi.proofs.sweeping.pb_sweep.Reads as pb-sweep-call
 use Rattle.capi.proofs.accelerations.pb_acceleration.Reads as pb-acceleration-call
 use Rattle.capi.proofs.accelerations.pb_percentile.Reads as pb-percentile-call
 use Rattle.capi.proofs.trips.pb_evaluate.Reads as pb-evaluate-call
-use Rattle.pierbracken.specs.Calls.{Answers, Gives, five-lanes, four-lanes, ReadsStream, Starts, Feeds, Ends, Sweeps, Evaluates}
+use Rattle.capi.proofs.reasons.pb_has_reason.Reads as pb-has-reason-call
+use Rattle.pierbracken.specs.Calls.{Answers, Gives, five-lanes, four-lanes, ReadsStream, Starts, Feeds, Ends, Sweeps, Evaluates, TestsReason}
 
 -- ---- the calls that answer as those of the library do, in the same words
 pub pb-read : ReadsStream pb-read-call.Pre pb-read-call.Post
@@ -56,6 +57,9 @@ pb-evaluate =
       takes-all = λ κs a. tt;
       means = λ κs a x e p. (p .0, four-lanes (p .1));
     }
+
+pub pb-has-reason : TestsReason pb-has-reason-call.Pre pb-has-reason-call.Post
+pb-has-reason = record { takes-all = λ κs a. tt; means = λ κs a x e p. (p, refl) }
 
 -- ---- those whose answer crosses as a struct, and the release
 pub pb-meaning : Gives pb-meaning-call.Pre pb-meaning-call.Post (λ κs a. releaseOfMeaning)

@@ -25,6 +25,36 @@ use Rattle.report.proofs.report.Statement as report-is
 use Rattle.report.proofs.report.Met as report-met
 use Rattle.report.proofs.report_refusal.Statement as report-refusal-is
 use Rattle.report.proofs.report_refusal.Met as report-refusal-met
+use Rattle.verdict.proofs.has_reason.Statement as has-reason-is
+use Rattle.verdict.proofs.has_reason.Met as has-reason-met
+use Rattle.printed.proofs.write_text.Statement as write-text-is
+use Rattle.printed.proofs.write_text.Met as write-text-met
+use Rattle.capi.proofs.meaning.pb_meaning.Statement as pb-meaning-is
+use Rattle.capi.proofs.meaning.pb_meaning.Met as pb-meaning-met
+use Rattle.capi.proofs.concentration.pb_mass_co2.Statement as pb-mass-co2-is
+use Rattle.capi.proofs.concentration.pb_mass_co2.Met as pb-mass-co2-met
+use Rattle.capi.proofs.concentration.pb_mass_nox.Statement as pb-mass-nox-is
+use Rattle.capi.proofs.concentration.pb_mass_nox.Met as pb-mass-nox-met
+use Rattle.capi.proofs.streams.pb_item.Statement as pb-item-is
+use Rattle.capi.proofs.streams.pb_item.Met as pb-item-met
+use Rattle.capi.proofs.streams.pb_read.Statement as pb-read-is
+use Rattle.capi.proofs.streams.pb_read.Met as pb-read-met
+use Rattle.capi.proofs.feeding.pb_start.Statement as pb-start-is
+use Rattle.capi.proofs.feeding.pb_start.Met as pb-start-met
+use Rattle.capi.proofs.feeding.pb_feed.Statement as pb-feed-is
+use Rattle.capi.proofs.feeding.pb_feed.Met as pb-feed-met
+use Rattle.capi.proofs.feeding.pb_end.Statement as pb-end-is
+use Rattle.capi.proofs.feeding.pb_end.Met as pb-end-met
+use Rattle.capi.proofs.sweeping.pb_sweep.Statement as pb-sweep-is
+use Rattle.capi.proofs.sweeping.pb_sweep.Met as pb-sweep-met
+use Rattle.capi.proofs.accelerations.pb_acceleration.Statement as pb-acceleration-is
+use Rattle.capi.proofs.accelerations.pb_acceleration.Met as pb-acceleration-met
+use Rattle.capi.proofs.accelerations.pb_percentile.Statement as pb-percentile-is
+use Rattle.capi.proofs.accelerations.pb_percentile.Met as pb-percentile-met
+use Rattle.capi.proofs.trips.pb_evaluate.Statement as pb-evaluate-is
+use Rattle.capi.proofs.trips.pb_evaluate.Met as pb-evaluate-met
+use Rattle.capi.proofs.reasons.pb_has_reason.Statement as pb-has-reason-is
+use Rattle.capi.proofs.reasons.pb_has_reason.Met as pb-has-reason-met
 
 -- `statement` says of the code of a call that it meets the contract in `src/`, in every model of memory
 module _ {M : Type 1} where
@@ -66,3 +96,49 @@ module _ {M : Type 1} where
 
   pub report-refusal : report-refusal-is.statement M
   report-refusal = report-refusal-met.met
+
+  pub has-reason : has-reason-is.statement M
+  has-reason = has-reason-met.met
+
+  pub write-text : write-text-is.statement M
+  write-text = write-text-met.met
+
+  -- ---- of the C interface
+  pub pb-meaning : pb-meaning-is.statement M
+  pb-meaning = pb-meaning-met.met
+
+  pub pb-mass-co2 : pb-mass-co2-is.statement M
+  pb-mass-co2 = pb-mass-co2-met.met
+
+  pub pb-mass-nox : pb-mass-nox-is.statement M
+  pb-mass-nox = pb-mass-nox-met.met
+
+  pub pb-item : pb-item-is.statement M
+  pb-item = pb-item-met.met
+
+  pub pb-read : pb-read-is.statement M
+  pb-read = pb-read-met.met
+
+  pub pb-start : pb-start-is.statement M
+  pb-start = pb-start-met.met
+
+  pub pb-feed : pb-feed-is.statement M
+  pb-feed = pb-feed-met.met
+
+  pub pb-end : pb-end-is.statement M
+  pb-end = pb-end-met.met
+
+  pub pb-sweep : pb-sweep-is.statement M
+  pb-sweep = pb-sweep-met.met
+
+  pub pb-acceleration : pb-acceleration-is.statement M
+  pb-acceleration = pb-acceleration-met.met
+
+  pub pb-percentile : pb-percentile-is.statement M
+  pb-percentile = pb-percentile-met.met
+
+  pub pb-evaluate : pb-evaluate-is.statement M
+  pb-evaluate = pb-evaluate-met.met
+
+  pub pb-has-reason : pb-has-reason-is.statement M
+  pb-has-reason = pb-has-reason-met.met

@@ -5,7 +5,7 @@ use mathlib.Core.Logic.{_↔_}
 use Rattle.base.specs.declared.Plan.{Plan}
 use Rattle.second.specs.Lanes.{Lanes}
 use Rattle.reasons.specs.Reasons.{Reason}
-use Rattle.verdict.specs.Verdict.{bitSet, bitNumber}
+use Rattle.verdict.specs.Verdict.{bitSet, bitNumber, maskOf, hasAny}
 use Rattle.trip.specs.declared.Rooms.{Rooms}
 use Rattle.trip.specs.Trip.{evaluated, answerOf}
 use Rattle.trip.specs.Rules.{Holds}
@@ -21,6 +21,10 @@ module _ (plan : Plan) (lanes : Lanes) (rooms : Rooms) (accepted : answerOf plan
   -- "a bit per reason": each bit is set exactly when its rule holds
   pub each-bit : (reason : Reason) → (bitSet (bitNumber reason) (evaluated plan lanes .verdict) ≡ true) ↔ Holds plan lanes reason
   each-bit reason = verdict.bit-exactly plan lanes (trip.accepted-passed plan lanes rooms accepted) reason
+
+  -- "Masks set and test each reason": the mask of a reason finds it exactly when its rule holds
+  pub each-mask : (reason : Reason) → (hasAny (evaluated plan lanes .verdict) (maskOf reason) ≡ true) ↔ Holds plan lanes reason
+  each-mask reason = verdict.mask-exactly plan lanes (trip.accepted-passed plan lanes rooms accepted) reason
 
   -- "zero meaning valid": exactly when no rule holds
   pub valid-exactly : (evaluated plan lanes .verdict ≡ 0) ↔ ((reason : Reason) → Holds plan lanes reason → ⊥)

@@ -55,9 +55,31 @@ pub use trip::Evaluated;
 pub use trip::evaluate;
 pub use windows::ClassCount;
 
+// The reasons of a verdict: a mask for each, and whether a verdict has one.
+pub use verdict::DULL_BIN;
+pub use verdict::ENDS_APART;
+pub use verdict::FEW_FAST_SECONDS;
+pub use verdict::FEW_PRODUCTS;
+pub use verdict::LIVELY_BIN;
+pub use verdict::MISSING_SECONDS;
+pub use verdict::NO_WINDOWS;
+pub use verdict::OUTSIDE_BAND;
+pub use verdict::SHARE_OF_DISTANCE;
+pub use verdict::SHORT_PART;
+pub use verdict::SLOW_SECONDS;
+pub use verdict::TOO_FAST;
+pub use verdict::TOO_HIGH;
+pub use verdict::TOO_MUCH_CLIMB;
+pub use verdict::TRIP_LENGTH;
+pub use verdict::URBAN_MEAN;
+pub use verdict::has_reason;
+
 // The printed lines, written into a lent buffer.
 pub use report::ClassLine;
 pub use report::Judged;
 pub use report::LONGEST_TEXT;
 pub use report::report;
 pub use report::report_refusal;
+
+// What is printed for a stream that was read into lanes.
+pub use printed::write_text;

@@ -21,9 +21,9 @@ use Rattle.found.specs.Found.{threeOf, foundIn}
 use Rattle.bins.specs.Bins.{binOf, binsOf}
 use Rattle.reasons.specs.Reasons.{Reason, tripLength, missingSeconds, shortPart, shareOfDistance, urbanMean, slowSeconds, fewFastSeconds, tooFast, endsApart, tooHigh, tooMuchClimb, fewProducts, livelyBin, dullBin, noWindows, outsideBand}
 use Rattle.reasons.specs.Rules.{Rule}
-use Rattle.verdict.specs.Verdict.{bitSet, bitNumber, verdict}
+use Rattle.verdict.specs.Verdict.{bitSet, bitNumber, maskOf, hasAny, verdict}
 use Rattle.reasons.proofs.Says.{Says}
-use Rattle.verdict.proofs.Laws.{bit-says, no-reason, valid-if-none}
+use Rattle.verdict.proofs.Laws.{bit-says, mask-tests, no-reason, valid-if-none}
 use Rattle.trip.specs.declared.Rooms.{Rooms}
 use Rattle.trip.specs.Trip.{partsOf, figuresFrom, answerFrom, concluded, figures, evaluated}
 use Rattle.trip.specs.Rules.{HasWindow, OneOf, speedsKept, co2Kept, Holds}
@@ -104,6 +104,10 @@ module _ (plan : Plan) (trip : Lanes) where
     pub bit-exactly : (reason : Reason) → (bitSet (bitNumber reason) (evaluated plan trip .verdict) ≡ true) ↔ Holds plan trip reason
     bit-exactly reason =
         (λ set. rule-holds reason .0 (verdict-bit reason .so set), λ rule. verdict-bit reason .back (rule-holds reason .1 rule))
+
+    -- a reason is tested by its mask exactly when its rule holds of the lanes
+    pub mask-exactly : (reason : Reason) → (hasAny (evaluated plan trip .verdict) (maskOf reason) ≡ true) ↔ Holds plan trip reason
+    mask-exactly reason = rw (mask-tests reason (evaluated plan trip .verdict)) (bit-exactly reason)
 
     -- the trip is valid exactly when none does
     pub valid-on-lanes : (evaluated plan trip .verdict ≡ 0) ↔ ((reason : Reason) → Holds plan trip reason → ⊥)

@@ -1,12 +1,12 @@
 -- What the verdict says: each bit is set exactly when its rule holds, and it is zero exactly when none does. Assumes nothing.
-use Prim.Native.Nat.{_^_}
+use Prim.Native.Nat.{ℕ}
 use mathlib.Core.Path.{_≡_, refl, sym, _∙_}
 use mathlib.Core.Bool.{Bool, true, false, true≢false}
 use mathlib.Core.List.{map}
 use lib.ListN.{getD}
 use Rattle.reasons.specs.declared.Figures.{Figures}
 use Rattle.reasons.specs.Reasons.{Reason, tripLength, missingSeconds, shortPart, shareOfDistance, urbanMean, slowSeconds, fewFastSeconds, tooFast, endsApart, tooHigh, tooMuchClimb, fewProducts, livelyBin, dullBin, noWindows, outsideBand, allReasons, holds}
-use Rattle.verdict.specs.Verdict.{verdict, bitSet, hasAny, bitNumber}
+use Rattle.verdict.specs.Verdict.{verdict, bitSet, hasAny, bitNumber, maskOf}
 use Rattle.reasons.specs.Rules.{Rule}
 use Rattle.verdict.proofs.Bits.{bit-of-number, has-tests-bit, none-set, zero-sets-none}
 use Rattle.reasons.proofs.Says.{Says, reason-says}
@@ -40,8 +40,12 @@ pub bit-says : (reason : Reason) (f : Figures) → Says (bitSet (bitNumber reaso
 bit-says reason f = rw (bit-is reason f) (reason-says reason f)
 
 -- the reason's mask tests its bit
-pub mask-says : (reason : Reason) (f : Figures) → Says (hasAny (verdict f) (2 ^ bitNumber reason)) (Rule reason f)
-mask-says reason f = rw (has-tests-bit (bitNumber reason) (verdict f)) (bit-says reason f)
+pub mask-tests : (reason : Reason) (number : ℕ) → hasAny number (maskOf reason) ≡ bitSet (bitNumber reason) number
+mask-tests reason number = has-tests-bit (bitNumber reason) number
+
+-- a reason that is tested by its mask in the verdict is exactly one whose rule holds
+pub mask-says : (reason : Reason) (f : Figures) → Says (hasAny (verdict f) (maskOf reason)) (Rule reason f)
+mask-says reason f = rw (mask-tests reason (verdict f)) (bit-says reason f)
 
 -- the verdict is zero exactly when no reason's rule holds
 pub no-reason : (f : Figures) → verdict f ≡ 0 → (reason : Reason) → Rule reason f → ⊥

@@ -39,9 +39,13 @@ bitNumber outsideBand = 15
 abbrev pub bitSet : ℕ → ℕ → Bool
 bitSet k number = eqb (number / 2 ^ k % 2) 1
 
--- masks set and test reasons
+-- "masks set and test each reason": the mask of a reason is its bit alone
+abbrev pub maskOf : Reason → ℕ
+maskOf reason = 2 ^ bitNumber reason
+
 unfoldable pub marked : ℕ → ℕ → Bool → ℕ
 marked reasons mask on = pick on (bitOr reasons mask) reasons
 
+-- a number has any of the bits of a mask
 abbrev pub hasAny : ℕ → ℕ → Bool
 hasAny number mask = not (eqb (bitAnd number mask) 0)

@@ -6,7 +6,7 @@ ghost use Prim.Native.Nat.{_≤_};
 ghost use Rattle.climb.specs.Climb.{climbMost};
 ghost use Rattle.verdict.specs.Verdict.{marked, hasAny, verdict};
 
-// The reasons, as bits of the verdict.
+// The masks of the reasons: each is the bit of one reason in the verdict.
 pub const TRIP_LENGTH: u16 = 0x0001;
 
 pub const MISSING_SECONDS: u16 = 0x0002;
@@ -73,7 +73,7 @@ pub fn judge(figures: Figures) -> u16
 }
 
 // Whether a verdict has any of the reasons of a mask.
-pub fn has(verdict: u16, mask: u16) -> bool
+pub fn has_reason(verdict: u16, mask: u16) -> bool
     ensures { λ r. ⌜ r ≡ hasAny verdict mask ⌝ }
 {
     (verdict & mask) != 0
