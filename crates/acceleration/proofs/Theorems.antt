@@ -15,7 +15,7 @@ use Rattle.second.specs.Lanes.{Lanes, secondsIn, lanesAgree, firstBadSecond, no
 use Rattle.second.proofs.Lanes.{agree, agrees, not-agree, none-each, each-none}
 use Rattle.acceleration.specs.declared.Acceleration.{Acceleration}
 use Rattle.acceleration.specs.declared.Acceleration.the-variants.{Rising, Falling, None, Refused}
-use Rattle.acceleration.specs.D.{dOf, hasD, numbered, faultOf, accelerationOf, refusalOf, placeOf, valueOf}
+use Rattle.acceleration.specs.D.{dOf, hasD, numbered, faultOf, accelerationOf, refusalOf, placeOf, isNumber, valueOf}
 use Rattle.acceleration.specs.Outcomes.{Outcome, lanes-differ, too-many, out-of-range, no-second, fine}
 
 module _ (trip : Lanes) (i : ℕ) where
@@ -81,6 +81,16 @@ module _ (trip : Lanes) (i : ℕ) where
   pub accepted-none : faultOf trip i .number ≡ 0 → hasD (trip .states) i ≡ false → accelerationOf trip i ≡ None
   unfolding accelerationOf
   accepted-none h none = rw (eq-eqb (faultOf trip i .number) 0 h, none) refl
+
+  -- so the answer is a number exactly where the second has D
+  pub accepted-number : faultOf trip i .number ≡ 0 → isNumber (accelerationOf trip i) ≡ hasD (trip .states) i
+  unfolding accelerationOf isNumber numbered
+  accepted-number h = rw (eq-eqb (faultOf trip i .number) 0 h) (go (hasD (trip .states) i) (dOf (trip .speeds) i))
+    where
+      go : (t : Bool) (z : ℤ) → isNumber (pick t (numbered z) None) ≡ t
+      go true (pos d) = refl
+      go true (negsuc d) = refl
+      go false z = refl
 
 -- the case of a number says that number
 pub number-of : (z : ℤ) → valueOf (numbered z) ≡ z

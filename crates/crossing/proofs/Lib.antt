@@ -1,3 +1,3 @@
 -- The laws of what crosses to C.
 mod Readings
-pub mod Refused
+pub mod Theorems

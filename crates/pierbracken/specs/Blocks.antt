@@ -14,6 +14,10 @@ use Rattle.reader.specs.Reached.{Reached}
 use Rattle.reader.proofs.Feeding as feeding
 use Rattle.reader.proofs.Whole as whole
 use Rattle.reader.proofs.Reached as reached
+use Rattle.blocks.proofs.feed.Reads as feed-call
+use Rattle.reader.proofs.end.Reads as end-call
+use Rattle.capi.proofs.feeding.pb_feed.Reads as pb-feed-call
+use Rattle.capi.proofs.feeding.pb_end.Reads as pb-end-call
 
 -- `room` is the number of places of the shortest lane, `value` what a lane holds of a second.
 
@@ -40,3 +44,20 @@ module _ (r : Reader) (places : length (r .held) ≡ 21) (bytes : Bytes (r .held
 
   pub end-refused : (endOf r .refusal ≡ 13) ↔ (Reached r → ⊥)
   end-refused = reached.end-refused r places bytes
+
+-- of the calls: what a contract allows has number 13 exactly so
+abbrev NeverMade : {L : Type 0} {In Out Exit : L → Type 0} → ((κs : L) → In κs → Out κs → Exit κs → Type 0) → ((κs : L) → In κs → Reader) → ((κs : L) → Out κs → ℕ) → Type 0
+NeverMade {L} {In} {Out} {Exit} allows reader number =
+    (κs : L) (inputs : In κs) (x : Out κs) (e : Exit κs) → allows κs inputs x e → length (reader κs inputs .held) ≡ 21 → Bytes (reader κs inputs .held) → (number κs x ≡ 13) ↔ (Reached (reader κs inputs) → ⊥)
+
+pub feed-never-made : NeverMade feed-call.Post (λ κs a. a .0) (λ κs x. x .refusal)
+feed-never-made κs a x e p places bytes = rw (p .0) (feed-refused (a .0) places bytes _ (a .1 .0 .now))
+
+pub end-never-made : NeverMade end-call.Post (λ κs a. a .0) (λ κs x. x .refusal)
+end-never-made κs a x e p places bytes = rw p (end-refused (a .0) places bytes)
+
+pub pb-feed-never-made : NeverMade pb-feed-call.Post (λ κs a. a .0) (λ κs x. x .refusal)
+pb-feed-never-made κs a x e p places bytes = rw (p .0) (feed-refused (a .0) places bytes _ (a .1 .0 .now))
+
+pub pb-end-never-made : NeverMade pb-end-call.Post (λ κs a. a .0) (λ κs x. x .refusal)
+pb-end-never-made κs a x e p places bytes = rw p (end-refused (a .0) places bytes)

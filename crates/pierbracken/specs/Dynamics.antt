@@ -4,11 +4,12 @@ use mathlib.Core.Path.{_≡_, sym, _∙_}
 use mathlib.Core.Bool.{true, false}
 use lib.IntN.{pos, _-ℤ_}
 use Rattle.second.specs.Lanes.{Lanes}
+use Rattle.acceleration.specs.declared.Acceleration.{Acceleration}
 use Rattle.acceleration.specs.declared.Acceleration.the-variants.{None}
 use Rattle.acceleration.specs.D.{speedBefore, speedAfter, dOf, hasD, faultOf, accelerationOf, refusalOf, valueOf}
 use Rattle.acceleration.proofs.Theorems as acceleration
 use Rattle.crossing.specs.Accelerations.{accelerationAcross}
-use Rattle.crossing.proofs.Refused as crossing
+use Rattle.crossing.proofs.Theorems as crossing
 
 module _ (lanes : Lanes) (i : ℕ) (accepted : refusalOf (accelerationOf lanes i) ≡ 0) where
   passed : faultOf lanes i .number ≡ 0
@@ -22,3 +23,13 @@ module _ (lanes : Lanes) (i : ℕ) (accepted : refusalOf (accelerationOf lanes i
   -- one that has none is answered so
   pub d-none : hasD (lanes .states) i ≡ false → accelerationOf lanes i ≡ None
   d-none = acceleration.accepted-none lanes i passed
+
+  -- to C the two cross as has_d, and D as rise less fall
+  pub d-crosses : accelerationAcross (accelerationOf lanes i) .«has_d» ≡ hasD (lanes .states) i
+  unfolding accelerationAcross
+  d-crosses = acceleration.accepted-number lanes i passed
+
+-- rise less fall is the value
+pub rise-less-fall : (answer : Acceleration) → pos (accelerationAcross answer .rise) -ℤ pos (accelerationAcross answer .fall) ≡ valueOf answer
+unfolding accelerationAcross
+rise-less-fall = crossing.rise-less-fall

@@ -54,7 +54,7 @@ use Rattle.crossing.specs.Concentration as concentration
 use Rattle.crossing.specs.Items.{frontAcross, itemAnswer, noContents}
 use Rattle.crossing.specs.Accelerations.{accelerationAcross, percentileAcross}
 use Rattle.crossing.specs.Outcomes as crossing-outcomes
-use Rattle.crossing.proofs.Refused as crossing
+use Rattle.crossing.proofs.Theorems as crossing
 use Rattle.mass.proofs.co2_mass.Reads as co2-mass-call
 use Rattle.mass.proofs.nox_mass.Reads as nox-mass-call
 use Rattle.item.proofs.read_item.Reads as read-item-call

@@ -1,10 +1,11 @@
--- What crosses is refused as the call that it stands for, a kind above 3 by 9, and a refusal has zeros beside its number and place. Assumes nothing.
+-- What crosses: refused as the call that it stands for, a kind above 3 by 9; zeros beside the number and place of a refusal; the value of D. Assumes nothing.
 use Prim.Native.Nat.{ℕ, _≤_}
 use mathlib.Core.Path.{_≡_, refl, _∙_}
 use mathlib.Core.Bool.{Bool, true, false}
 use mathlib.Core.Logic.{_↔_}
 use lib.Dec.{leb}
 use lib.Ieee.{Float}
+use lib.IntN.{pos, negℤ, _-ℤ_, +ℤ-idl, +ℤ-idr}
 use borrow.Author.Tests.{leb-true, leb-false}
 use Rattle.base.specs.Words.{pick}
 use Rattle.mass.specs.declared.Setting.{Setting}
@@ -86,3 +87,11 @@ pub percentile-zeros : (found : Answer) → (percentiles.refusalOf found ≡ 0 �
 unfolding percentileAcross percentiles.refusalOf percentiles.valueOf percentiles.placeOf
 percentile-zeros (Answer.Q q) refused = absurd (refused refl)
 percentile-zeros (Answer.Refused fault) refused = refl
+
+-- ---- the value of D: how far it rises less how far it falls
+pub rise-less-fall : (found : Acceleration) → pos (riseOf found) -ℤ pos (fallOf found) ≡ d.valueOf found
+unfolding riseOf fallOf d.valueOf
+rise-less-fall (Rising n) = +ℤ-idr (pos n)
+rise-less-fall (Falling n) = +ℤ-idl (negℤ (pos n))
+rise-less-fall None = refl
+rise-less-fall (Refused fault) = refl
