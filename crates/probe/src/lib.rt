@@ -2,30 +2,39 @@
 // size. It is no part of the library that is handed out.
 
 use base::Plan;
+ghost use mathlib.Core.Path.{_≡_};
+ghost use Rattle.lively.specs.Lively.{tooLively, tooDull};
+ghost use Rattle.probe.specs.Window.{windowProbe};
 
 // Whether a bin is too lively: S, N and Q of any size.
 #[no_mangle]
-pub extern "C" fn probe_too_lively(s: u32, n: u32, q: u64) -> bool {
+pub extern "C" fn probe_too_lively(s: u32, n: u32, q: u64) -> bool
+    ensures { λ r. ⌜ r ≡ tooLively s n q ⌝ }
+{
     lively::too_lively(s, n, q)
 }
 
 // Whether a bin is too dull: S, N and T of any size.
 #[no_mangle]
-pub extern "C" fn probe_too_dull(s: u32, n: u32, t: u64) -> bool {
+pub extern "C" fn probe_too_dull(s: u32, n: u32, t: u64) -> bool
+    ensures { λ r. ⌜ r ≡ tooDull s n t ⌝ }
+{
     lively::too_dull(s, n, t)
 }
 
 // A window judged.
 #[repr(C)]
 pub struct WindowProbe {
-    pub judged: bool, // whether the plan is in range and the window has seconds and moves
+    pub judged: bool, // whether the plan is in range and the window moves and has seconds
     pub inside: bool,
     pub class: usize, // 0 urban, 1 rural, 2 motorway, 3 none
 }
 
 // A window of any sum of speeds, mass and length.
 #[no_mangle]
-pub extern "C" fn probe_window(plan: Plan, s: u32, m: u32, n: usize) -> WindowProbe {
+pub extern "C" fn probe_window(plan: Plan, s: u32, m: u32, n: usize) -> WindowProbe
+    ensures { λ r. ⌜ r ≡ windowProbe plan s m n ⌝ }
+{
     if !base::plan_in_range(plan) {
         return NOT_JUDGED;
     }

@@ -1,2 +1,3 @@
--- What a split of a slice promises.
+-- The value at which a slice is split, and what a split promises.
 pub mod Split
+pub mod Pivot

@@ -24,6 +24,7 @@ mod mass;
 mod probe;
 mod program;
 mod random;
+mod reasons;
 mod runs;
 mod stream;
 mod streams;
@@ -81,4 +82,5 @@ fn compare_library(account: &mut Account) {
     dynamics::compare(account);
     probe::compare(account);
     trip::compare(account);
+    reasons::compare(account);
 }

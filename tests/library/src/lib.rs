@@ -202,3 +202,9 @@ pub fn evaluate(plan: Plan, trip: Trip, lent: Lent) -> TripAnswer {
         )
     }
 }
+
+/// Whether a verdict has any of the reasons of a mask.
+pub fn has_reason(verdict: u16, mask: u16) -> bool {
+    // Safety: plain numbers go in, and a bool comes out.
+    unsafe { raw::pb_has_reason(verdict, mask) }
+}

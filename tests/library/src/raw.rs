@@ -254,4 +254,5 @@ extern "C" {
         ranks: *mut u32,
         ranks_places: usize,
     ) -> TripAnswer;
+    pub fn pb_has_reason(verdict: u16, mask: u16) -> bool;
 }

@@ -248,3 +248,9 @@ pub fn reasons(rules: &Rules, f: &Figures) -> u16 {
     }
     verdict
 }
+
+/// "masks set and test each reason": whether a verdict has any of the reasons of a mask, bit by bit.
+pub fn has_reason(verdict: u16, mask: u16) -> bool {
+    let is_set = |number: u16, bit: u32| number / (1 << bit) % 2 == 1;
+    (0..u16::BITS).any(|bit| is_set(verdict, bit) && is_set(mask, bit))
+}

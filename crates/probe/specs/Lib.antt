@@ -1,0 +1,2 @@
+-- What the opened leaves answer.
+pub mod Window
