@@ -62,7 +62,6 @@ pub struct ReadAnswer {
 #[derive(Clone, Copy, Debug, Default, PartialEq, Eq)]
 pub struct Reader {
     pub refusal: u8,
-    pub planned: bool,
     pub plan: Plan,
     pub seconds: usize,
     pub at: usize,
