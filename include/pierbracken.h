@@ -294,7 +294,7 @@ typedef struct pb_sweep_answer {
  *
  * A call first looks at every mass, and sums those taken and not dropped, whatever the budget. At
  * 8,100 kept seconds this takes about 1 us on the machine of docs/PERFORMANCE.md, as long as 1,500
- * moves: who sweeps a little after each second pays it each time, and a budget of hundreds of moves
+ * moves: who sweeps a little after each second pays it each time, and a budget of a hundred moves
  * costs hardly more than a budget of one.
  */
 pb_sweep_answer pb_sweep(uint32_t reference, const uint32_t *co2, size_t co2_count,
