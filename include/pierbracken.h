@@ -1,11 +1,20 @@
 /*
  * Pierbracken: whether a PEMS trip is valid, and from which figures.
  *
- * Every function takes every input, ends, and allocates nothing. An answer begins with the number
- * of its refusal. A refused call has every other result zero and writes into no lent lane.
+ * For x86-64 Linux (System V calling convention), from C11 or C++: link with libpierbracken.a.
  *
- * Link with libpierbracken.a. The functions are safe to call from several threads, as long as no
- * two calls share a lent lane.
+ * Every function takes every value: any bit pattern of any number has an answer. Each ends, and
+ * allocates nothing. An answer begins with the number of its refusal. A refused call has every
+ * result but number and place zero, and writes into no lent lane.
+ *
+ * The caller's duties, which no call can test:
+ *  - No pointer is NULL, also where its count is 0. Each has as many places as its count says, with
+ *    the natural alignment of their type.
+ *  - No lane that is written overlaps anything else that the call reads or writes. Kept lanes lent
+ *    over the trip's own give an accepted, wrong answer; products are not ranked in place.
+ *  - The float mode is as C starts it: round to nearest, denormals kept. In another rounding mode,
+ *    or with the start-up code of -ffast-math, masses and their refusals differ.
+ *  - Calls may run in several threads; no two at a time share a lane that one of them writes.
  */
 #ifndef PIERBRACKEN_H
 #define PIERBRACKEN_H
@@ -17,6 +26,22 @@
 #ifdef __cplusplus
 extern "C" {
 #endif
+
+#define PB_RELEASE 1          /* the release of the meaning that this header was written for */
+#define PB_TRIP_MOST 8192     /* seconds of the longest trip, and places enough for any lane */
+#define PB_STREAM_MOST 122901 /* bytes of the longest stream: a plan and PB_TRIP_MOST seconds */
+
+/*
+ * The stack that a call needs, at most, in bytes below the caller's stack pointer: its return
+ * address and all beneath it (tests/c/stack.c measures it). A dynamic linker that binds memcpy or
+ * memset when pb_feed first calls it needs more, that once.
+ */
+enum {
+    PB_STACK_EVALUATE = 8192,   /* pb_evaluate: ranking is up to 33 calls within one another */
+    PB_STACK_PERCENTILE = 7680, /* pb_percentile: likewise */
+    PB_STACK_FEED = 1536,       /* pb_feed */
+    PB_STACK_OTHER = 512        /* any other call */
+};
 
 /* The numbers of refusal, each given exactly when: */
 enum {
@@ -41,9 +66,33 @@ enum {
 /*
  * The release of the meaning: the entry of docs/VALID.md by which this build answers. It changes
  * whenever a figure, a reason or a refusal does: store it beside a verdict. An earlier release still
- * answers by the independent program (`make judge-as`).
+ * answers by the independent program (`make judge-as`). Where it is not PB_RELEASE, header and
+ * library are not of one release.
  */
 uint32_t pb_meaning(void);
+
+/* The reasons why a trip is not valid, as bits of its verdict. Parts are the three bins. */
+enum {
+    PB_REASON_TRIP_LENGTH = 0x0001,       /* not 5,400 to 7,200 seconds */
+    PB_REASON_MISSING_SECONDS = 0x0002,   /* 1 percent missing or more, or over 30 in a row */
+    PB_REASON_SHORT_PART = 0x0004,        /* a part below 16 km */
+    PB_REASON_SHARE_OF_DISTANCE = 0x0008, /* not urban 29 to 44, the others 23 to 43 percent */
+    PB_REASON_URBAN_MEAN = 0x0010,        /* urban mean speed not 15 to 40 km/h */
+    PB_REASON_SLOW_SECONDS = 0x0020,      /* not 6 to 30 percent of urban seconds below 1 km/h */
+    PB_REASON_FEW_FAST_SECONDS = 0x0040,  /* fewer than 300 seconds above 100 km/h */
+    PB_REASON_TOO_FAST = 0x0080,          /* above 160 km/h, or over 3 % of motorway above 145 */
+    PB_REASON_ENDS_APART = 0x0100,        /* first and last altitude over 100 m apart */
+    PB_REASON_TOO_HIGH = 0x0200,          /* a corrected altitude above 1,300 m */
+    PB_REASON_TOO_MUCH_CLIMB = 0x0400,    /* climb not below 1,200 m in 100 km */
+    PB_REASON_FEW_PRODUCTS = 0x0800,      /* a part with fewer than 100 accelerating seconds */
+    PB_REASON_LIVELY_BIN = 0x1000,        /* a part too lively */
+    PB_REASON_DULL_BIN = 0x2000,          /* a part too dull */
+    PB_REASON_NO_WINDOWS = 0x4000,        /* a class without windows */
+    PB_REASON_OUTSIDE_BAND = 0x8000       /* a class with windows, under half inside the band */
+};
+
+/* Whether a verdict has any of the reasons of a mask. */
+bool pb_has_reason(uint16_t verdict, uint16_t mask);
 
 /* ---- from concentration to mass ---- */
 
@@ -70,7 +119,7 @@ typedef struct pb_mass_answer {
 } pb_mass_answer;
 
 /*
- * The CO2 mass of a second in mg, 0 to 100,000, and the NOx mass in µg, 0 to 10,000,000.
+ * The CO2 mass of a second in mg, 0 to 100,000, and the NOx mass in ug, 0 to 10,000,000.
  *
  * In this order, each product rounded once to the nearest double: percent times 10,000; dry times
  * the factor; u times that; times the flow; times 1,000 (CO2) or 1,000,000 (NOx). The whole part
@@ -140,14 +189,11 @@ typedef struct pb_read_answer {
 
 /*
  * A whole stream into five lanes: for each second its state and its values, zeros for a missing
- * second. Places beyond the seconds read are left alone. A trip of 8,192 seconds takes at most
- * 122,901 bytes.
+ * second. Places beyond the seconds read are left alone.
  *
  * The first bad item counts; within it PB_UNKNOWN_KIND, PB_CUT_ITEM, PB_PLAN_MISPLACED,
  * PB_PLAN_OUT_OF_RANGE or PB_OUT_OF_RANGE, PB_TOO_MANY, PB_LANE_TOO_SHORT. An empty stream is
  * PB_PLAN_MISPLACED at 0. A refused call writes into no lane.
- *
- * No pointer is NULL, also where its count is 0, and no two lanes overlap.
  */
 pb_read_answer pb_read(const uint8_t *stream, size_t stream_bytes,
                        uint8_t *states, size_t states_places,
@@ -161,10 +207,14 @@ pb_read_answer pb_read(const uint8_t *stream, size_t stream_bytes,
 /*
  * Where the reading of a stream stands between two blocks. Its members are there to be read; a
  * reader that these calls never made is refused.
+ *
+ * A bad item settles the reader: refusal is its number and at its byte offset; plan and seconds stay
+ * as they were read before it, count is 0 and held all zero. More blocks change nothing then, and
+ * pb_end answers that refusal.
  */
 typedef struct pb_reader {
-    uint8_t refusal; /* 0 until a bad item settles the answer: more blocks change nothing then */
-    pb_plan plan;    /* zeros before it */
+    uint8_t refusal; /* 0 until a bad item settles the answer */
+    pb_plan plan;    /* zeros before it was read */
     size_t seconds;  /* seconds read */
     size_t at;       /* byte offset of the first item that was not read; 0 exactly until the plan
                         was read */
@@ -186,9 +236,15 @@ pb_reader pb_start(void);
  * Feeds a block of any length, cut anywhere. Each second that it completes is written into the next
  * place of each lane: hand the same lanes to every call for one stream. A bad item settles the
  * answer, see reader.refusal; the seconds before it stay written. Refused by PB_STATE_NOT_REACHED,
- * for a reader that these calls never made, with nothing written.
+ * for a reader that these calls never made, with nothing written. So there are two refusals to look
+ * at, that of the feed and that of the reader:
  *
- * No pointer is NULL, also where its count is 0, and no two lanes overlap.
+ *     pb_fed fed = {PB_ACCEPTED, 0, pb_start()};
+ *     while (fed.refusal == 0 && fed.reader.refusal == 0 && (bytes = next(block)) > 0)
+ *         fed = pb_feed(fed.reader, block, bytes, states, n, speeds, n, ..);
+ *     if (fed.refusal != 0)
+ *         return damaged();            // between two calls; fed.reader is as at the start
+ *     read = pb_end(fed.reader);       // the refusal that settled the reader, too
  */
 pb_fed pb_feed(pb_reader reader, const uint8_t *block, size_t block_bytes,
                uint8_t *states, size_t states_places,
@@ -232,6 +288,14 @@ typedef struct pb_sweep_answer {
  * Refused by PB_PLAN_OUT_OF_RANGE (the reference, mg, 1 to 20,000,000), PB_TOO_MANY,
  * PB_LANE_TOO_SHORT (ends needs a place for each mass), PB_OUT_OF_RANGE (a mass above 100,000 mg),
  * PB_STATE_NOT_REACHED, in this order; a refused call leaves the lane.
+ *
+ * Kept seconds may be appended to the lane between two calls: the sweep goes on from its state, also
+ * where it was over (examples/c/between_samples.c).
+ *
+ * A call first looks at every mass, and sums those taken and not dropped, whatever the budget. At
+ * 8,100 kept seconds this takes about 1 us on the machine of docs/PERFORMANCE.md, as long as 1,500
+ * moves: who sweeps a little after each second pays it each time, and a budget of a hundred moves
+ * costs hardly more than a budget of one.
  */
 pb_sweep_answer pb_sweep(uint32_t reference, const uint32_t *co2, size_t co2_count,
                          uint16_t *ends, size_t ends_places,
@@ -318,7 +382,7 @@ typedef struct pb_trip_answer {
     uint64_t climb; /* cm */
     pb_class classes[3];
     /*
-     * A bit for each reason of docs/VALID.md; 0 says that the trip is valid. It speaks only where
+     * A bit for each reason, PB_REASON_..; 0 says that the trip is valid. It speaks only where
      * refusal is PB_ACCEPTED: a refused trip was not judged, and its verdict is 0 all the same.
      */
     uint16_t verdict;

@@ -1,10 +1,9 @@
 #!/bin/sh
-# tests/program.sh C_JUDGE: the examples by the program, by `make judge` and by examples/c/judge.c,
-# built as C_JUDGE; a trip by an earlier release; and the program on inputs that are empty, fail or do
-# not end. The last line is `N passed, M failed`.
+# tests/program.sh: the examples by the program and by `make judge`; a trip by an earlier release;
+# and the program on inputs that are empty, fail or do not end. The last line is
+# `N passed, M failed`.
 cd "$(dirname "$0")/.." || exit 1
 judge=target/bin/judge
-c_judge=$1
 passed=0 failed=0
 room=$(mktemp -d) || exit 1
 trap 'rm -rf "$room"' EXIT
@@ -31,8 +30,6 @@ for trip in examples/*.trip; do
     wants "$trip by the program" "${trip%.trip}.expected"
     make --no-print-directory judge TRIP="$trip" >"$room/said" 2>&1
     wants "$trip by make judge" "${trip%.trip}.expected"
-    "$c_judge" "$trip" >"$room/said" 2>&1
-    wants "$trip by examples/c/judge.c" "${trip%.trip}.expected"
 done
 
 make --no-print-directory judge-as RELEASE=1 TRIP=examples/printed.trip >"$room/said" 2>&1

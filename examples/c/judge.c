@@ -5,75 +5,95 @@
  *     cc -I target/pierbracken -o judge examples/c/judge.c target/pierbracken/libpierbracken.a
  *     ./judge examples/printed.trip
  *
- * It prints what the program prints: six lines, or one line for a refusal.
+ * Prints what the program prints, and on standard error the reasons or the refusal in words. Ends
+ * with 0 for a valid trip, 1 for one that is not, 2 for a refusal, 3 if reading or writing fails.
  */
 #include <stdio.h>
 
 #include "pierbracken.h"
 
-enum { TRIP = 8192, BLOCK = 4096 };
+enum { VALID, NOT_VALID, REFUSED, NO_ANSWER };
+enum { BLOCK = 4096, N = PB_TRIP_MOST };
 
 /* The lanes of one trip, and those lent to its evaluation: 216 KiB that a unit sets aside once. */
-static uint8_t states[TRIP];
-static uint16_t speeds[TRIP], kept_speeds[TRIP], ends[TRIP];
-static int32_t altitudes[TRIP];
-static uint32_t co2[TRIP], nox[TRIP], kept_co2[TRIP], ranks[TRIP];
+static uint8_t states[N];
+static uint16_t speeds[N], kept_speeds[N], ends[N];
+static int32_t altitudes[N];
+static uint32_t co2[N], nox[N], kept_co2[N], ranks[N];
+
+/* By number of refusal. */
+static const char *const refusals[14] = {
+    "", "lanes differ in length", "more than 8,192 seconds", "a value is out of range",
+    "no second was measured", "the plan is out of range", "a lane is too short",
+    "the stream ends inside an item", "an item of unknown kind", "a mass input is out of range",
+    "a mass is too large", "the plan is absent, late or repeated", "too few values",
+    "the reader was changed between two blocks"};
+
+/* By bit of the verdict, from PB_REASON_TRIP_LENGTH to PB_REASON_OUTSIDE_BAND. */
+static const char *const reasons[16] = {
+    "too short or too long", "too much of it is missing", "a part is too short",
+    "the parts are out of proportion", "the urban speed is too low or too high",
+    "too little or too much standing", "too little time above 100 km/h", "the speed is too high",
+    "start and end differ in height", "it goes too high", "it climbs too much",
+    "too little acceleration to judge", "a part is too lively", "a part is too dull",
+    "a class has no windows", "too few windows inside the band"};
+
+static int no_answer(const char *why)
+{
+    fprintf(stderr, "%s\n", why);
+    return NO_ANSWER;
+}
 
 static int refused(unsigned number, size_t place)
 {
     printf("refused %u at %zu\n", number, place);
-    return 0;
-}
-
-/* Reads the stream in blocks; nothing keeps the whole of it. */
-static bool read_trip(FILE *file, pb_read_answer *read)
-{
-    uint8_t block[BLOCK];
-    pb_reader reader = pb_start();
-    size_t bytes;
-
-    while (reader.refusal == PB_ACCEPTED && (bytes = fread(block, 1, sizeof block, file)) > 0)
-        reader = pb_feed(reader, block, bytes, states, TRIP, speeds, TRIP, altitudes, TRIP,
-                         co2, TRIP, nox, TRIP).reader;
-    *read = pb_end(reader);
-    return !ferror(file);
+    fprintf(stderr, "refused: %s\n", refusals[number]);
+    return REFUSED;
 }
 
 static int judge(pb_plan plan, size_t n)
 {
     static const char *const names[3] = {"urban", "rural", "motorway"};
     pb_trip_answer trip = pb_evaluate(plan, states, n, speeds, n, altitudes, n, co2, n, nox, n,
-                                      kept_speeds, TRIP, kept_co2, TRIP, ends, TRIP, ranks, TRIP);
+                                      kept_speeds, N, kept_co2, N, ends, N, ranks, N);
 
     if (trip.refusal != PB_ACCEPTED)
         return refused(trip.refusal, trip.place);
-    printf("seconds %u missing %u kept %u\n", (unsigned)trip.seconds, (unsigned)trip.missing,
-           (unsigned)trip.kept);
-    printf("windows %u moves %u\n", (unsigned)trip.windows, (unsigned)trip.moves);
+    printf("seconds %u missing %u kept %u\n", trip.seconds, trip.missing, trip.kept);
+    printf("windows %u moves %u\n", trip.windows, trip.moves);
     for (int i = 0; i < 3; i++)
-        printf("%s %u %u\n", names[i], (unsigned)trip.classes[i].windows,
-               (unsigned)trip.classes[i].inside);
+        printf("%s %u %u\n", names[i], trip.classes[i].windows, trip.classes[i].inside);
     printf("reasons %04x\n", (unsigned)trip.verdict);
-    return 0;
+    for (int bit = 0; bit < 16; bit++)
+        if (pb_has_reason(trip.verdict, (uint16_t)(PB_REASON_TRIP_LENGTH << bit)))
+            fprintf(stderr, "not valid: %s\n", reasons[bit]);
+    return trip.verdict == 0 ? VALID : NOT_VALID;
+}
+
+/* Reads the stream in blocks and judges it; nothing keeps the whole stream. */
+static int read_and_judge(FILE *file)
+{
+    uint8_t block[BLOCK];
+    pb_fed fed = {PB_ACCEPTED, 0, pb_start()};
+    size_t n;
+
+    while (fed.refusal == PB_ACCEPTED && fed.reader.refusal == PB_ACCEPTED &&
+           (n = fread(block, 1, BLOCK, file)) > 0)
+        fed = pb_feed(fed.reader, block, n, states, N, speeds, N, altitudes, N, co2, N, nox, N);
+    if (ferror(file))
+        return no_answer("unreadable");
+    if (fed.refusal != PB_ACCEPTED) /* its reader is a new one, and says nothing of the stream */
+        return refused(fed.refusal, fed.place);
+    pb_read_answer read = pb_end(fed.reader);
+    return read.refusal ? refused(read.refusal, read.place) : judge(read.plan, read.seconds);
 }
 
 int main(int count, char **words)
 {
     FILE *file = count == 2 ? fopen(words[1], "rb") : NULL;
-    pb_read_answer read;
-    bool readable;
-
-    if (file == NULL) {
-        fprintf(stderr, count == 2 ? "unreadable\n" : "usage: judge TRIP\n");
-        return 1;
-    }
-    readable = read_trip(file, &read);
+    if (file == NULL)
+        return no_answer(count == 2 ? "unreadable" : "usage: judge TRIP");
+    int status = read_and_judge(file);
     fclose(file);
-    if (!readable) {
-        fprintf(stderr, "unreadable\n");
-        return 1;
-    }
-    if (read.refusal != PB_ACCEPTED)
-        return refused(read.refusal, read.place);
-    return judge(read.plan, read.seconds);
+    return fflush(stdout) == 0 && !ferror(stdout) ? status : no_answer("unwritable");
 }

@@ -1,9 +1,10 @@
 /*
- * The header from C: it compiles with all warnings, the structs lie as the library lays them, and
- * example (l) of the paper comes out.
+ * The header from C: it compiles with all warnings, its numbers and masks are the library's, the
+ * structs lie as the library lays them, and examples of the paper come out.
  */
 #include <math.h>
 #include <stdio.h>
+#include <string.h>
 
 #include "pierbracken.h"
 
@@ -17,6 +18,53 @@ static void expect(int holds, const char *what)
         failed++;
         printf("failed: %s\n", what);
     }
+}
+
+/* The named numbers, and the longest stream as the library reads it. */
+static void limits(void)
+{
+    static uint8_t stream[PB_STREAM_MOST + 15] = {0x10, 0, 0, 0, 1, 0, 0, 0, 1, 0, 0, 0, 1, 0, 0, 0,
+                                                  1};
+    static uint8_t states[PB_TRIP_MOST];
+    static uint16_t speeds[PB_TRIP_MOST];
+    static int32_t altitudes[PB_TRIP_MOST];
+    static uint32_t co2[PB_TRIP_MOST], nox[PB_TRIP_MOST];
+    pb_read_answer read;
+
+    expect(PB_RELEASE == pb_meaning(), "the header's release is the library's");
+    expect(PB_TRIP_MOST == 8192, "8,192 seconds");
+    expect(PB_STREAM_MOST == 21 + PB_TRIP_MOST * 15, "a plan and as many seconds");
+    for (size_t at = 21; at < sizeof stream; at += 15)
+        stream[at] = PB_ITEM_CHECK;
+    read = pb_read(stream, PB_STREAM_MOST, states, PB_TRIP_MOST, speeds, PB_TRIP_MOST, altitudes,
+                   PB_TRIP_MOST, co2, PB_TRIP_MOST, nox, PB_TRIP_MOST);
+    expect(read.refusal == PB_ACCEPTED && read.seconds == PB_TRIP_MOST, "the longest stream");
+    read = pb_read(stream, sizeof stream, states, PB_TRIP_MOST, speeds, PB_TRIP_MOST, altitudes,
+                   PB_TRIP_MOST, co2, PB_TRIP_MOST, nox, PB_TRIP_MOST);
+    expect(read.refusal == PB_TOO_MANY && read.place == PB_STREAM_MOST, "one second more");
+}
+
+/* The masks stand in the order of the reasons, a bit each. */
+static void reasons(void)
+{
+    static const uint16_t masks[16] = {
+        PB_REASON_TRIP_LENGTH, PB_REASON_MISSING_SECONDS, PB_REASON_SHORT_PART,
+        PB_REASON_SHARE_OF_DISTANCE, PB_REASON_URBAN_MEAN, PB_REASON_SLOW_SECONDS,
+        PB_REASON_FEW_FAST_SECONDS, PB_REASON_TOO_FAST, PB_REASON_ENDS_APART, PB_REASON_TOO_HIGH,
+        PB_REASON_TOO_MUCH_CLIMB, PB_REASON_FEW_PRODUCTS, PB_REASON_LIVELY_BIN, PB_REASON_DULL_BIN,
+        PB_REASON_NO_WINDOWS, PB_REASON_OUTSIDE_BAND};
+    const uint16_t lively_or_dull = PB_REASON_LIVELY_BIN | PB_REASON_DULL_BIN;
+
+    for (unsigned bit = 0; bit < 16; bit++) {
+        expect(masks[bit] == 1u << bit, "the mask of a reason");
+        expect(pb_has_reason(masks[bit], masks[bit]), "a verdict with one reason has it");
+        expect(pb_has_reason(0xffff, masks[bit]), "a verdict with all reasons has it");
+        expect(!pb_has_reason((uint16_t)~masks[bit], masks[bit]), "one with all others has it not");
+        expect(pb_has_reason(0xc86d, masks[bit]) == (0xc86d >> bit & 1), "the printed case has it");
+    }
+    expect(!pb_has_reason(0, 0xffff) && !pb_has_reason(0xffff, 0), "none, and none asked for");
+    expect(pb_has_reason(0x2000, lively_or_dull) && !pb_has_reason(0x4fff, lively_or_dull),
+           "either of two reasons");
 }
 
 static void layout(void)
@@ -45,6 +93,7 @@ static void layout(void)
     expect(offsetof(pb_read_answer, plan) == 16, "offset of a reading's plan");
     expect(offsetof(pb_read_answer, seconds) == 40, "offset of seconds");
     expect(sizeof(pb_reader) == 72, "size of pb_reader");
+    expect(offsetof(pb_reader, refusal) == 0, "offset of a reader's refusal");
     expect(offsetof(pb_reader, plan) == 4, "offset of a reader's plan");
     expect(offsetof(pb_reader, seconds) == 24, "offset of a reader's seconds");
     expect(offsetof(pb_reader, at) == 32, "offset of at");
@@ -106,6 +155,29 @@ static void mass(void)
            "a mass above its range is refusal 10");
 }
 
+/* A reader that an item of no kind settles after a stream: what it holds, and what it answers. */
+static void settled_reader(const uint8_t *stream, size_t bytes)
+{
+    static const uint8_t bad[2] = {0x7f, 0x7f};
+    uint8_t states[6];
+    uint16_t speeds[6];
+    int32_t altitudes[6];
+    uint32_t co2[6], nox[6];
+    pb_fed fed = pb_feed(pb_start(), stream, bytes, states, 6, speeds, 6, altitudes, 6, co2, 6, nox,
+                         6);
+
+    for (int i = 0; i < 2; i++) {
+        fed = pb_feed(fed.reader, bad, 2, states, 6, speeds, 6, altitudes, 6, co2, 6, nox, 6);
+        expect(fed.refusal == PB_ACCEPTED && fed.reader.refusal == PB_UNKNOWN_KIND &&
+                   fed.reader.at == bytes && fed.reader.seconds == 5 &&
+                   fed.reader.plan.e3 == 160000 && fed.reader.count == 0 && fed.reader.held[0] == 0,
+               "a settled reader: the refusal and its place, what was read, nothing held");
+    }
+    pb_read_answer read = pb_end(fed.reader);
+    expect(read.refusal == PB_UNKNOWN_KIND && read.place == bytes && read.seconds == 0,
+           "the end answers what settled the reader");
+}
+
 /* The printed case: its stream, read item by item and whole, and swept. */
 static void printed_case(void)
 {
@@ -154,10 +226,42 @@ static void printed_case(void)
     read = pb_end(fed.reader);
     expect(read.refusal == 0 && read.seconds == 5 && states[4] == 1 && states[5] == 9,
            "the stream in blocks of 8 bytes");
+    settled_reader(stream, sizeof stream);
     fed.reader.at++;
     fed = pb_feed(fed.reader, stream, 1, states, 6, speeds, 6, altitudes, 6, co2, 6, nox, 6);
     expect(fed.refusal == PB_STATE_NOT_REACHED && fed.reader.seconds == 0,
            "a reader that was never made is refusal 13");
+}
+
+/* Whether a sweep of a lane's front, by some moves, goes on to its end on the whole lane. */
+static bool resumes(uint32_t reference, const uint32_t *co2, size_t front, uint64_t moves)
+{
+    static const pb_sweep_state beginning;
+    uint16_t ends[5] = {9, 9, 9, 9, 9}, whole[5] = {9, 9, 9, 9, 9};
+    pb_sweep_answer at_once = pb_sweep(reference, co2, 5, whole, 5, beginning, UINT64_MAX);
+    pb_sweep_answer part = pb_sweep(reference, co2, front, ends, 5, beginning, moves);
+    pb_sweep_answer rest = pb_sweep(reference, co2, 5, ends, 5, part.state, UINT64_MAX);
+
+    return part.refusal == 0 && rest.refusal == 0 && rest.over &&
+           part.moves + rest.moves == at_once.moves && rest.state.dropped == at_once.state.dropped &&
+           memcmp(ends, whole, sizeof ends) == 0;
+}
+
+/* All lanes of five masses up to 2, all their fronts, and every number of moves up to the last. */
+static void longer_lane(void)
+{
+    for (uint32_t reference = 1; reference <= 11; reference++) {
+        bool all = true;
+
+        for (uint32_t lane = 0; lane < 243; lane++) {
+            const uint32_t co2[5] = {lane % 3, lane / 3 % 3, lane / 9 % 3, lane / 27 % 3, lane / 81};
+
+            for (size_t front = 0; front <= 5; front++)
+                for (uint64_t moves = 0; moves <= 10; moves++)
+                    all = all && resumes(reference, co2, front, moves);
+        }
+        expect(all, "a sweep goes on where the lane grew");
+    }
 }
 
 /* Examples (g) and (i): D of three speeds, and Q of 1 to 101. */
@@ -182,10 +286,12 @@ static void dynamics(void)
 
 int main(void)
 {
-    expect(pb_meaning() == 1, "release 1 of the meaning");
+    limits();
+    reasons();
     layout();
     mass();
     printed_case();
+    longer_lane();
     dynamics();
     printf("%d passed, %d failed\n", passed, failed);
     return failed != 0;
