@@ -17,7 +17,7 @@ wants() {
         passed=$((passed + 1))
     else
         failed=$((failed + 1))
-        echo "failed: $1"
+        printf 'failed: %s\n' "$1"
         head -n 8 "$room/said"
     fi
 }
@@ -274,6 +274,17 @@ lib: crate 3 of 3 proved: capi"
 cp "$small/asked" "$room/said"
 says "the library is what is proved for the library" "check base item
 staticlib capi"
+# again: the library once more, not from nothing; `asked` is there where something was proved.
+again() {
+    rm -f "$small/asked"
+    PATH="$room/saying:$PATH" runs "$small/tools/lib"
+    head -n 1 "$small/asked" >"$room/said" 2>/dev/null
+}
+again
+wants "a library that is built is not proved again" /dev/null
+: >"$small/crates/edited"
+again
+says "a library older than a source is proved again" "check base item"
 
 : >"$small/fails"
 saying "$small/tools/judge" examples/printed.trip
