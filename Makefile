@@ -10,35 +10,34 @@ override TRIP := $(value TRIP)
 override RELEASE := $(value RELEASE)
 export TRIP RELEASE
 
-#: make help                        this list
+#: make help                          this list
 help:
 	@sed -n 's/^#: //p' Makefile
 
-#: make judge TRIP=FILE             judge a trip
+#: make judge TRIP=FILE               judge a trip
 judge:
 	@tools/judge "$$TRIP"
 
-#: make judge-as RELEASE=1 TRIP=FILE
-#:                                  what that release said of the trip, by the independent program
+#: make judge-as RELEASE=1 TRIP=FILE  judge a trip as that release did
 judge-as:
 	@tools/judge-as "$$RELEASE" "$$TRIP"
 
-#: make lib                         target/pierbracken/: libpierbracken.a and pierbracken.h
+#: make lib                           build the library for C, target/pierbracken/
 lib:
 	@tools/lib
 
-#: make test                        prove and test everything; the last line is `N passed, 0 failed`
+#: make test                          prove and test everything, 25 minutes
 test:
 	@tools/test
 
-#: make bench                       compare with plain Rust, and print ratios
+#: make bench                         the speed of the library beside plain Rust
 bench:
 	@tools/bench
 
-#: make soak                        the long comparison with the independent program
+#: make soak                          the long comparison, a quarter of an hour
 soak:
 	@tools/soak
 
-#: make readings                    the wrong readings of the rules, each with the input that tells it
+#: make readings                      the wrong readings that the tests tell
 readings:
 	@tools/readings
