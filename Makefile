@@ -1,35 +1,43 @@
-# The commands of the repository. Each works in a fresh clone with no other step.
-#
-#   make test                 prove and test everything; the last line is `N passed, 0 failed`
-#   make judge TRIP=FILE      judge a trip
-#   make judge-as RELEASE=1 TRIP=FILE
-#                             what that release said of the trip, by the independent program
-#   make lib                  target/pierbracken/: libpierbracken.a and pierbracken.h
-#   make bench                compare with plain Rust, and print ratios
-#   make soak                 the long comparison with the independent program
-#   make readings             the wrong readings of the rules, each with the input that tells it
+# The commands of the repository. Each works in a fresh clone with no other step. A line that begins
+# with `#:` is a line of `make help`, which `make` alone prints too.
 
-TRIP = examples/printed.trip
+.DEFAULT_GOAL := help
+.PHONY: help test judge judge-as lib bench soak readings
 
-.PHONY: test judge judge-as lib bench soak readings
+# The names of files reach the scripts through the environment, as they were typed: `make` would
+# take a `$` for its own, and the shell a quote.
+override TRIP := $(value TRIP)
+override RELEASE := $(value RELEASE)
+export TRIP RELEASE
 
-test:
-	@tools/test
+#: make help                          this list
+help:
+	@sed -n 's/^#: //p' Makefile
 
+#: make judge TRIP=FILE               judge a trip
 judge:
-	@tools/judge "$(TRIP)"
+	@tools/judge "$$TRIP"
 
+#: make judge-as RELEASE=1 TRIP=FILE  judge a trip as that release did
 judge-as:
-	@tools/judge-as "$(RELEASE)" "$(TRIP)"
+	@tools/judge-as "$$RELEASE" "$$TRIP"
 
+#: make lib                           build the library for C, target/pierbracken/
 lib:
 	@tools/lib
 
+#: make test                          prove and test everything, 25 minutes
+test:
+	@tools/test
+
+#: make bench                         the speed of the library beside plain Rust
 bench:
 	@tools/bench
 
+#: make soak                          the long comparison, a quarter of an hour
 soak:
 	@tools/soak
 
+#: make readings                      the wrong readings that the tests tell
 readings:
 	@tools/readings

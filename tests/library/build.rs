@@ -1,5 +1,5 @@
-//! Links the static libraries that `make lib` makes: the product's, and the one with leaves for
-//! the tests.
+//! Links the static libraries that `tools/lib-and-probe` makes: the product's, and the one with leaves
+//! for the tests.
 
 use std::path::Path;
 
@@ -9,7 +9,10 @@ fn main() {
         let folder = target.join(folder);
         let archive = folder.join(format!("lib{name}.a"));
         if !archive.exists() {
-            panic!("{} is not there: run `make lib` first", archive.display());
+            panic!(
+                "{} is not there: run `tools/lib-and-probe` first",
+                archive.display()
+            );
         }
         println!("cargo:rustc-link-search=native={}", folder.display());
         println!("cargo:rustc-link-lib=static={name}");

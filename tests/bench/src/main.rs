@@ -4,6 +4,8 @@ mod mass;
 mod percentile;
 mod plain_trip;
 mod program;
+#[path = "../../progress.rs"]
+mod progress;
 mod stream;
 mod sweep;
 mod timing;
@@ -28,4 +30,9 @@ fn main() {
         "growth from 1,024 to 8,192 (8.0 is linear)", "ours", "Rust"
     );
     growths.iter().for_each(timing::print_growth);
+    assert_eq!(
+        timing::begun(),
+        timing::WORKS,
+        "WORKS is not how many works are timed"
+    );
 }

@@ -1,9 +1,18 @@
 //! Times two ways of one work by turns, and prints the best of each and their ratio.
 
+use std::sync::atomic::{AtomicUsize, Ordering};
 use std::time::{Duration, Instant};
+
+use crate::progress;
 
 /// How often each way is timed; the best time counts, so that other load falls out.
 const TURNS: usize = 25;
+
+/// How many works are timed, so that the progress can say of how many.
+pub const WORKS: usize = 17;
+
+/// Works whose timing has begun.
+static BEGUN: AtomicUsize = AtomicUsize::new(0);
 
 /// What one work took, in ms: the library's way and the other.
 #[derive(Clone, Copy)]
@@ -39,6 +48,8 @@ pub fn against(work: &str, ours: impl FnMut() -> u64, theirs: impl FnMut() -> u6
 /// Runs `ours` and `theirs` by turns. Both give a number made of all their results, which must
 /// agree: the work cannot be left out.
 pub fn best(work: &str, mut ours: impl FnMut() -> u64, mut theirs: impl FnMut() -> u64) -> Took {
+    let number = BEGUN.fetch_add(1, Ordering::Relaxed) + 1;
+    progress::tell(&format!("bench: work {number} of {WORKS}: {work}"));
     let mut best = [Duration::MAX; 2];
     for _ in 0..TURNS {
         let (a, took_ours) = timed(&mut ours);
@@ -48,6 +59,11 @@ pub fn best(work: &str, mut ours: impl FnMut() -> u64, mut theirs: impl FnMut() 
     }
     let [ours, theirs] = best.map(|time| time.as_secs_f64() * 1e3);
     Took { ours, theirs }
+}
+
+/// How many works were timed.
+pub fn begun() -> usize {
+    BEGUN.load(Ordering::Relaxed)
 }
 
 pub fn print(work: &str, took: Took) {

@@ -3,6 +3,7 @@
 use oracle::Rules;
 
 use crate::case::{Answer, Case};
+use crate::progress;
 
 /// Differences of one comparison that are printed; the rest are counted.
 const SHOWN: u64 = 5;
@@ -13,6 +14,10 @@ pub struct Account {
     pub seed: u64,
     passed: u64,
     failed: u64,
+    /// Comparisons met so far.
+    met: u64,
+    /// How many there are. While they are counted it is not known, and none is run.
+    all: Option<u64>,
 }
 
 /// One comparison under way.
@@ -29,12 +34,26 @@ impl Account {
             seed,
             passed: 0,
             failed: 0,
+            met: 0,
+            all: None,
         }
+    }
+
+    /// Goes through the comparisons twice: first without running one, to count them.
+    pub fn run(&mut self, comparisons: impl Fn(&mut Account)) {
+        comparisons(self);
+        self.all = Some(std::mem::take(&mut self.met));
+        comparisons(self);
     }
 
     /// Runs a comparison and counts it as one test: passed where it tried something and nothing
     /// differed. Says whether something differed.
     pub fn compare(&mut self, name: &str, run: impl FnOnce(&mut Comparison)) -> bool {
+        self.met += 1;
+        let Some(all) = self.all else {
+            return false;
+        };
+        progress::tell(&format!("comparison {} of {all}: {name}", self.met));
         let mut comparison = Comparison {
             rules: self.rules.clone(),
             inputs: 0,

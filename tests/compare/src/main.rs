@@ -23,6 +23,8 @@ mod lanes;
 mod mass;
 mod probe;
 mod program;
+#[path = "../../progress.rs"]
+mod progress;
 mod random;
 mod reasons;
 mod runs;
@@ -58,20 +60,25 @@ fn main() {
         }
     }
     let mut account = Account::new(rules, seed);
-    frozen::compare(&mut account);
-    telling::compare(&mut account);
-    compare_library(&mut account);
+    account.run(|account| compare_all(account, soak));
+    std::process::exit(account.close());
+}
+
+fn compare_all(account: &mut Account, soak: bool) {
+    let seed = account.seed;
+    frozen::compare(account);
+    telling::compare(account);
+    compare_library(account);
     if soak {
         for more in 1..SOAK_SEEDS {
             account.seed = seed.wrapping_add(more);
-            compare_library(&mut account);
+            compare_library(account);
         }
         account.seed = seed;
-        program::compare(&mut account, &program::ALL);
+        program::compare(account, &program::ALL);
     } else {
-        program::compare(&mut account, &program::SOME);
+        program::compare(account, &program::SOME);
     }
-    std::process::exit(account.close());
 }
 
 fn compare_library(account: &mut Account) {
