@@ -164,10 +164,10 @@ pb_read_answer pb_read(const uint8_t *stream, size_t stream_bytes,
  */
 typedef struct pb_reader {
     uint8_t refusal; /* 0 until a bad item settles the answer: more blocks change nothing then */
-    bool planned;    /* whether the plan was read */
     pb_plan plan;    /* zeros before it */
     size_t seconds;  /* seconds read */
-    size_t at;       /* byte offset of the first item that was not read */
+    size_t at;       /* byte offset of the first item that was not read; 0 exactly until the plan
+                        was read */
     size_t count;    /* how many bytes of it are held, 0 to 20 */
     uint8_t held[21];
 } pb_reader;

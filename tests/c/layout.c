@@ -45,7 +45,6 @@ static void layout(void)
     expect(offsetof(pb_read_answer, plan) == 16, "offset of a reading's plan");
     expect(offsetof(pb_read_answer, seconds) == 40, "offset of seconds");
     expect(sizeof(pb_reader) == 72, "size of pb_reader");
-    expect(offsetof(pb_reader, planned) == 1, "offset of planned");
     expect(offsetof(pb_reader, plan) == 4, "offset of a reader's plan");
     expect(offsetof(pb_reader, seconds) == 24, "offset of a reader's seconds");
     expect(offsetof(pb_reader, at) == 32, "offset of at");

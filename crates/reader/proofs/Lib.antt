@@ -1,5 +1,6 @@
 -- The laws of a reader that is fed block by block.
 pub mod Carry
+pub mod InPlace
 pub mod Feeding
 pub mod Making
 pub mod Reaching

@@ -10,6 +10,7 @@ ghost use Prim.Native.Nat.{_≤_};
 ghost use lib.ListN.{drop};
 ghost use Rattle.base.specs.Limits.{tripLimit};
 ghost use Rattle.base.specs.Words.{pick};
+ghost use Rattle.reader.specs.Blocks.{planBefore};
 ghost use Rattle.reader.specs.Made.{isNoPlan, madeBefore, offsetMade, madeAfter, standingMade, allZero, carryMade, numberBefore, numberAfter, settledMade, wasMade};
 
 // Whether the calls make a reader.
@@ -29,7 +30,8 @@ pub fn was_made(reader: Reader) -> bool
 fn standing_made(reader: Reader) -> bool
     ensures { λ r. ⌜ r ≡ standingMade reader ⌝ }
 {
-    if reader.planned {
+    let at = reader.at;
+    if crate::plan_before(at) {
         return made_after(reader);
     }
     made_before(reader)
@@ -41,8 +43,7 @@ fn made_before(reader: Reader) -> bool
 {
     let plan = reader.plan;
     let seconds = reader.seconds;
-    let at = reader.at;
-    is_no_plan(plan) & (seconds == 0) & (at == 0)
+    is_no_plan(plan) & (seconds == 0)
 }
 
 // Whether a plan is all zero.
@@ -121,11 +122,12 @@ fn settled_made(reader: Reader) -> bool
 
 // Whether an item can have this number where the reader stands.
 fn number_made(reader: Reader) -> bool
-    ensures { λ r. ⌜ r ≡ pick (reader .planned) (numberAfter (reader .refusal) (reader .seconds)) (numberBefore (reader .refusal)) ⌝ }
+    ensures { λ r. ⌜ r ≡ pick (planBefore (reader .at)) (numberAfter (reader .refusal) (reader .seconds)) (numberBefore (reader .refusal)) ⌝ }
 {
     let number = reader.refusal;
     let seconds = reader.seconds;
-    if reader.planned {
+    let at = reader.at;
+    if crate::plan_before(at) {
         return number_after(number, seconds);
     }
     number_before(number)

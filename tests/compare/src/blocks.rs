@@ -146,7 +146,8 @@ fn altered(random: &mut Random, made: Reader) -> Vec<Reader> {
         change(&mut reader);
         readers.push(reader);
     };
-    with(&|r| r.planned = !r.planned);
+    // the plan as if it had not been read, or as if it had
+    with(&|r| r.at = if r.at == 0 { 21 } else { 0 });
     with(&|r| r.at += 1);
     with(&|r| r.at = usize::MAX);
     with(&|r| r.seconds += 1);
