@@ -4,13 +4,13 @@
 use std::mem::offset_of;
 
 use library::SweepState;
-use oracle::{stream, windows, Plan, Rules};
+use oracle::second::Second;
+use oracle::{windows, Plan, Rules};
 
 use crate::account::{Account, Comparison};
 use crate::case::{Case, MassInput, SweepInput, TripInput};
 use crate::lanes::Lanes;
 use crate::random::Random;
-use crate::streams;
 
 mod readers;
 
@@ -135,9 +135,6 @@ fn states_of_the_sweep(comparison: &mut Comparison, seed: u64) {
 
 // ---- plans
 
-/// Seconds of the trip that the plans are tried on.
-const SECONDS: usize = 12;
-
 /// A plan of one number for each of its ranges.
 fn even_plan(reference: u32, e: u32, tolerance: u8) -> Plan {
     Plan {
@@ -150,20 +147,36 @@ fn even_plan(reference: u32, e: u32, tolerance: u8) -> Plan {
     }
 }
 
-/// Plans at the ends of their ranges and between them: with windows and without.
+/// Some seconds at a speed of each class, with masses around those of an even curve.
+fn trip(random: &mut Random, e: u32) -> Lanes {
+    let mut second = |speed: u16| {
+        let on_the_curve = u32::from(speed) * (e / 1_000) / 360;
+        Second {
+            state: 1,
+            speed,
+            altitude: 0,
+            co2: on_the_curve * (60 + random.below(80) as u32) / 100,
+            nox: 1,
+        }
+    };
+    let speeds = [3_600, 7_000, 12_000].map(|speed| [speed; 8]);
+    let seconds = speeds.as_flattened().iter().map(|&speed| second(speed));
+    Lanes::of(&seconds.collect::<Vec<Second>>())
+}
+
+/// Plans at the ends of their ranges and between them: with windows, inside and not, and without.
 fn plans(comparison: &mut Comparison, seed: u64) {
     let mut random = Random::new(seed ^ 44);
-    let bytes = streams::whole(&mut random, SECONDS);
-    let mut trip = Lanes::guarded([SECONDS; 5]);
-    stream::read(&comparison.rules, &bytes, &mut trip.lent_on_paper()).expect("a readable stream");
+    let e = 150_000;
+    let trip = trip(&mut random, e);
     let ends = [even_plan(1, 1, 0), even_plan(20_000_000, 2_000_000, 100)];
-    let between = [even_plan(70_000, 150_000, 25), even_plan(0x0101, 0x0101, 1)];
+    let between = [even_plan(3_000, e, 25), even_plan(9_000, e, 9)];
     for plan in ends.into_iter().chain(between) {
         each_value(bytes_of_plan(&plan), |bytes| {
             comparison.case(&Case::Trip(TripInput {
                 plan: plan_in(&bytes),
                 trip: trip.clone(),
-                places: [SECONDS; 4],
+                places: [trip.states.len(); 4],
                 printed: false,
             }));
         });
