@@ -15,6 +15,7 @@
 mod account;
 mod blocks;
 mod borders;
+mod bytes;
 mod case;
 mod chosen;
 mod dynamics;
@@ -85,6 +86,7 @@ fn compare_library(account: &mut Account) {
     mass::compare(account);
     stream::compare(account);
     blocks::compare(account);
+    bytes::compare(account);
     sweep::compare(account);
     dynamics::compare(account);
     probe::compare(account);

@@ -8,7 +8,7 @@ mod raw;
 
 pub use raw::{
     AccelerationAnswer, Bin, Class, Fed, ItemAnswer, MassAnswer, PercentileAnswer, Plan,
-    ReadAnswer, Reader, Setting, SweepAnswer, SweepState, Tally, TripAnswer,
+    ReadAnswer, Reader, ReaderBytes, Setting, SweepAnswer, SweepState, Tally, TripAnswer,
 };
 
 /// The release of the meaning of "valid" by which this build answers.
@@ -91,6 +91,34 @@ pub fn feed(reader: Reader, block: &[u8], lanes: Lanes) -> Fed {
             lanes.nox.len(),
         )
     }
+}
+
+/// Feeds a block to a reader of any bytes.
+pub fn feed_bytes(reader: ReaderBytes, block: &[u8], lanes: Lanes) -> Fed {
+    // Safety: as for `feed`; a reader's members are numbers, so that its bytes may be any.
+    unsafe {
+        raw::pb_feed_bytes(
+            reader,
+            block.as_ptr(),
+            block.len(),
+            lanes.states.as_mut_ptr(),
+            lanes.states.len(),
+            lanes.speeds.as_mut_ptr(),
+            lanes.speeds.len(),
+            lanes.altitudes.as_mut_ptr(),
+            lanes.altitudes.len(),
+            lanes.co2.as_mut_ptr(),
+            lanes.co2.len(),
+            lanes.nox.as_mut_ptr(),
+            lanes.nox.len(),
+        )
+    }
+}
+
+/// The answer at the end, of a reader of any bytes.
+pub fn end_bytes(reader: ReaderBytes) -> ReadAnswer {
+    // Safety: as for `end`; a reader's members are numbers, so that its bytes may be any.
+    unsafe { raw::pb_end_bytes(reader) }
 }
 
 /// The answer at the end of a stream that came in blocks.

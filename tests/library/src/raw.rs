@@ -69,6 +69,14 @@ pub struct Reader {
     pub held: [u8; 21],
 }
 
+/// `pb_reader` as its bytes, what lies between the members too: from C any value may come.
+#[repr(C, align(8))]
+#[derive(Clone, Copy, Debug, PartialEq, Eq)]
+pub struct ReaderBytes(pub [u8; 72]);
+
+const _: () = assert!(size_of::<ReaderBytes>() == size_of::<Reader>());
+const _: () = assert!(align_of::<ReaderBytes>() == align_of::<Reader>());
+
 /// `pb_fed`
 #[repr(C)]
 #[derive(Clone, Copy, Debug, Default, PartialEq, Eq)]
@@ -254,4 +262,28 @@ extern "C" {
         ranks_places: usize,
     ) -> TripAnswer;
     pub fn pb_has_reason(verdict: u16, mask: u16) -> bool;
+}
+
+// The calls that take a reader, with its bytes: a struct that is too large for registers crosses
+// as it lies in memory, whatever its members are.
+#[allow(clashing_extern_declarations)]
+extern "C" {
+    #[link_name = "pb_feed"]
+    pub fn pb_feed_bytes(
+        reader: ReaderBytes,
+        block: *const u8,
+        block_bytes: usize,
+        states: *mut u8,
+        states_places: usize,
+        speeds: *mut u16,
+        speeds_places: usize,
+        altitudes: *mut i32,
+        altitudes_places: usize,
+        co2: *mut u32,
+        co2_places: usize,
+        nox: *mut u32,
+        nox_places: usize,
+    ) -> Fed;
+    #[link_name = "pb_end"]
+    pub fn pb_end_bytes(reader: ReaderBytes) -> ReadAnswer;
 }

@@ -14,6 +14,7 @@ pub mod item;
 pub mod mass;
 pub mod natural;
 pub mod numbers;
+pub mod reader;
 pub mod reasons;
 pub mod report;
 pub mod rules;

@@ -11,6 +11,7 @@ mod natural;
 mod numbers;
 mod printed;
 mod random;
+mod reader;
 mod reasons;
 mod stream;
 mod sweep;
