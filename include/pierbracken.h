@@ -219,7 +219,7 @@ typedef struct pb_reader {
     size_t at;       /* byte offset of the first item that was not read; 0 exactly until the plan
                         was read */
     size_t count;    /* how many bytes of it are held, 0 to 20 */
-    uint8_t held[21];
+    uint8_t held[21]; /* these bytes, zeros behind them */
 } pb_reader;
 
 /* The answer of feeding a block. */
