@@ -16,7 +16,7 @@ use Rattle.trip.specs.declared.Rooms.{Rooms}
 use Rattle.report.specs.Lines.{bufferWritten}
 use Rattle.printed.specs.Printed.{printedText}
 use Rattle.printed.proofs.Texts.{refused-text}
-use Rattle.judge.specs.Input.{roomIn, eachLane, HasRead, SaysOfOne}
+use Rattle.judge.specs.Input.{roomIn, eachLane, HasRead, JudgedAsOne}
 use Rattle.judge.proofs.Lanes.{each-same}
 use Rattle.judge.proofs.Blocks.{flat-bytes}
 
@@ -40,8 +40,8 @@ text-whole before rooms blocks = go (eqb (read .refusal) 0) refl
     go true e = ap (λ (lanes : Lanes). printedText read lanes rooms) (each-same (λ A value. laneAll value room started blocks) (λ A value. laneAfter value room (flatten blocks)) before (λ A value lane fits. blocks-lane room blocks value lane fits (eqb-true (read .refusal) 0 e)))
     go false e = let bad = eqb-false (read .refusal) 0 e in refused-text read fed rooms bad ∙ sym (refused-text read whole rooms bad)
 
-pub says-of-one : (before : Lanes) (r : Reader) (after : Lanes) (rooms : Rooms) (read : ReadAnswer) (text₀ text : List ℕ) → HasRead before r after → read ≡ endOf r → text ≡ bufferWritten (printedText read after rooms) text₀ → SaysOfOne before rooms text₀ text
-says-of-one before r after rooms read text₀ text has is written =
+pub judged-as-one : (before : Lanes) (r : Reader) (after : Lanes) (rooms : Rooms) (read : ReadAnswer) (text₀ text : List ℕ) → HasRead before r after → read ≡ endOf r → text ≡ bufferWritten (printedText read after rooms) text₀ → JudgedAsOne before rooms text₀ text
+judged-as-one before r after rooms read text₀ text has is written =
     let room = roomIn before in
     let answer : read ≡ readOf room (flatten (has .blocks)) = is ∙ ap endOf (has .reader) ∙ blocks-end room (has .blocks) in
     record {

@@ -70,7 +70,7 @@ pub record HasRead (before : Lanes) (r : Reader) (after : Lanes) : Type 0 where
 
 -- ---- the whole
 -- the text in a buffer is what the whole-stream call, the evaluation and the report say of one stream
-pub record SaysOfOne (lanes : Lanes) (rooms : Rooms) (before after : List ℕ) : Type 0 where
+pub record JudgedAsOne (lanes : Lanes) (rooms : Rooms) (before after : List ℕ) : Type 0 where
   pub stream : List ℕ
   pub bytes : Bytes stream
   pub text : after ≡ bufferWritten (printedText (readOf (roomIn lanes) stream) (eachLane (λ A value. laneAfter value (roomIn lanes) stream) lanes) rooms) before

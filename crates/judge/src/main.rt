@@ -16,7 +16,7 @@ ghost use Rattle.second.specs.Lanes.{lanesOf};
 ghost use Rattle.trip.specs.Refusals.{roomsOf};
 ghost use Rattle.report.specs.Lines.{bufferWritten};
 ghost use Rattle.printed.specs.Printed.{printedText, keptSpeedsLeft, keptCo2Left, endsLeft, ranksLeft};
-ghost use Rattle.judge.specs.Input.{blockMost, Unsettled, HasFed, goesOn, HasRead, SaysOfOne};
+ghost use Rattle.judge.specs.Input.{blockMost, Unsettled, HasFed, goesOn, HasRead, JudgedAsOne};
 
 // The most bytes of one read.
 const BLOCK: usize = 4_096;
@@ -34,8 +34,8 @@ struct Input {
     failed: bool, // whether a read failed
 }
 
-// Lends what the others fill: a block, nine lanes with a place for each second of the longest trip,
-// and a buffer for the longest text.
+// Lends what is filled: a block, nine lanes with a place for each second of the longest trip, and a
+// buffer for the longest text. Says so where the input could not be read.
 fn main() {
     let mut block = [0u8; BLOCK];
     let mut states = [0u8; limits::TRIP];
@@ -48,7 +48,7 @@ fn main() {
     let mut ends = [0u16; limits::TRIP];
     let mut ranks = [0u32; limits::TRIP];
     let mut text = [0u8; report::LONGEST_TEXT];
-    judge_input(
+    let could_read = judge_input(
         &mut block,
         &mut states,
         &mut speeds,
@@ -61,10 +61,14 @@ fn main() {
         &mut ranks,
         &mut text,
     );
+    if !could_read {
+        io::write_all(libc::STDERR_FILENO, b"unreadable\n");
+    }
 }
 
-// Reads the input into the lanes, judges it and prints: what the whole-stream call, the evaluation and
-// the report say of one stream. Answers whether the input could be read; where not, nothing is judged.
+// Reads the input into the lanes, judges it and prints. What it prints is what the whole-stream call,
+// the evaluation and the report say of one stream. Answers whether the input could be read; where it
+// could not, nothing is judged.
 fn judge_input(
     block: &mut [u8],
     states: &mut [u8],
@@ -79,13 +83,12 @@ fn judge_input(
     text: &mut [u8],
 ) -> bool
     requires { ⌜ length (now block) ≡ blockMost ⌝ }
-    ensures judged { λ r. ⌜ (r ≡ true → SaysOfOne (lanesOf (now (states .entry)) (now (speeds .entry)) (now (altitudes .entry)) (now (co2 .entry)) (now (nox .entry))) (roomsOf (now («kept_speeds» .entry)) (now («kept_co2» .entry)) (now (ends .entry)) (now (ranks .entry))) (now (text .entry)) (now (text .exit))) ⌝ }
+    ensures judged { λ r. let lanes = lanesOf (now (states .entry)) (now (speeds .entry)) (now (altitudes .entry)) (now (co2 .entry)) (now (nox .entry)) in let rooms = roomsOf (now («kept_speeds» .entry)) (now («kept_co2» .entry)) (now (ends .entry)) (now (ranks .entry)) in ⌜ (r ≡ true → JudgedAsOne lanes rooms (now (text .entry)) (now (text .exit))) ⌝ }
     ensures unjudged { λ r. ⌜ (r ≡ false → now (text .exit) ≡ now (text .entry)) ⌝ }
 {
     let input = read_input(block, states, speeds, altitudes, co2, nox);
     let reader = input.reader;
     if input.failed {
-        io::write_all(libc::STDERR_FILENO, b"unreadable\n");
         return false;
     }
     print_answer(
@@ -149,7 +152,7 @@ fn read_input(
     nox: &mut [u32],
 ) -> Input
     requires { ⌜ length (now block) ≡ blockMost ⌝ }
-    ensures read { λ r. ⌜ HasRead (lanesOf (now (states .entry)) (now (speeds .entry)) (now (altitudes .entry)) (now (co2 .entry)) (now (nox .entry))) (r .reader) (lanesOf (now (states .exit)) (now (speeds .exit)) (now (altitudes .exit)) (now (co2 .exit)) (now (nox .exit))) ⌝ }
+    ensures read { λ r. let before = lanesOf (now (states .entry)) (now (speeds .entry)) (now (altitudes .entry)) (now (co2 .entry)) (now (nox .entry)) in let after = lanesOf (now (states .exit)) (now (speeds .exit)) (now (altitudes .exit)) (now (co2 .exit)) (now (nox .exit)) in ⌜ HasRead before (r .reader) after ⌝ }
     ensures ended { λ r. ⌜ goesOn r ≡ false ⌝ }
 {
     let mut input = Input {
@@ -180,7 +183,7 @@ fn read_block(
 ) -> Input
     requires { ⌜ Unsettled reader ⌝ }
     requires { ⌜ length (now block) ≡ blockMost ⌝ }
-    ensures fed { λ r. ⌜ HasFed (lanesOf (now (states .entry)) (now (speeds .entry)) (now (altitudes .entry)) (now (co2 .entry)) (now (nox .entry))) reader (take (r .came) (now (block .exit))) (r .reader) (lanesOf (now (states .exit)) (now (speeds .exit)) (now (altitudes .exit)) (now (co2 .exit)) (now (nox .exit))) ⌝ }
+    ensures fed { λ r. let before = lanesOf (now (states .entry)) (now (speeds .entry)) (now (altitudes .entry)) (now (co2 .entry)) (now (nox .entry)) in let after = lanesOf (now (states .exit)) (now (speeds .exit)) (now (altitudes .exit)) (now (co2 .exit)) (now (nox .exit)) in ⌜ HasFed before reader (take (r .came) (now (block .exit))) (r .reader) after ⌝ }
     ensures within { λ r. ⌜ r .came ≤ blockMost ⌝ }
     ensures goes_on { λ r. ⌜ r .more ≡ goesOn r ⌝ }
 {
@@ -194,15 +197,7 @@ fn read_block(
             failed: got < 0,
         };
     }
-    let fed = blocks::feed(
-        reader,
-        &block[..came],
-        states,
-        speeds,
-        altitudes,
-        co2,
-        nox,
-    );
+    let fed = blocks::feed(reader, &block[..came], states, speeds, altitudes, co2, nox);
     let next = fed.reader;
     Input {
         reader: next,

@@ -2,21 +2,15 @@
 use mathlib.Core.Path.{_≡_, refl, sym}
 use mathlib.Core.Bool.{true, false, true≢false}
 use borrow.Author.Needs.{needs}
-use Rattle.judge.proofs.Whole.{says-of-one}
+use Rattle.judge.proofs.Whole.{judged-as-one}
 use Rattle.judge.proofs.judge_input.Statement.{statement}
 use Rattle.judge.proofs.judge_input.Tie as tie
 
 read-input-requires : tie.Need-read-input-requires
 read-input-requires c κs = search needs
 
-slice-aggregate-write-all : tie.Need-slice-aggregate-write-all
-slice-aggregate-write-all c = search needs
-
-write-all-requires : tie.Need-write-all-requires
-write-all-requires c κs = search needs
-
 same-length : tie.Need-same-length
-same-length c = c .before .before .before .before .before .before .before .before .before .before .before .before .before .before .before .read-input .kept .0
+same-length c = c .before .before .before .before .before .before .before .before .before .before .before .before .before .read-input .kept .0
 
 same-length-2 : tie.Need-same-length-2
 same-length-2 c = search needs
@@ -78,15 +72,13 @@ same-length-17 c = search needs
 returns-2 : tie.Need-returns-2
 returns-2 c =
     let read = c .before .before .before .before .before .before .before .before .before .before .before .before .before .before .before .before .before .before .before .before .before .before .before .before .before .before .before .before .before .before .before .before .before .before .before .read-input in
-    (λ judged. says-of-one _ (read .result .reader) _ _ (c .before .before .before .before .before .before .before .before .before .before .before .before .before .before .before .before .before .before .before .before .before .end .result) _ _ (read .ensures .0) (c .before .before .before .before .before .before .before .before .before .before .before .before .before .before .before .before .before .before .before .before .before .end .ensures) (c .before .before .before .before .before .before .before .before .before .before .print-answer .ensures .0), λ (failed : true ≡ false). absurd (true≢false failed))
+    (λ judged. judged-as-one _ (read .result .reader) _ _ (c .before .before .before .before .before .before .before .before .before .before .before .before .before .before .before .before .before .before .before .before .before .end .result) _ _ (read .ensures .0) (c .before .before .before .before .before .before .before .before .before .before .before .before .before .before .before .before .before .before .before .before .before .end .ensures) (c .before .before .before .before .before .before .before .before .before .before .print-answer .ensures .0), λ (failed : true ≡ false). absurd (true≢false failed))
 
 pub judge-input-spec : {M : Type 1} → statement M
 judge-input-spec =
     tie.close
     (tie.spec
     read-input-requires
-    slice-aggregate-write-all
-    write-all-requires
     same-length
     same-length-2
     same-length-3
