@@ -24,7 +24,7 @@ use Rattle.judge.specs.declared.Input.{Input}
 abbrev pub roomIn : Lanes → ℕ
 roomIn lanes = roomOf (lanes .states) (lanes .speeds) (lanes .altitudes) (lanes .co2) (lanes .nox)
 
--- all of them changed in one way, each by what it holds of a second
+-- all of them changed in one way: `change` takes what a lane holds of a second, and the lane
 abbrev pub eachLane : ((A : Type 0) → (Row → A) → List A → List A) → Lanes → Lanes
 eachLane change lanes =
     record {

@@ -7,10 +7,6 @@ use Rattle.printed.proofs.Texts.{written-inside}
 use borrow.Author.Needs.{needs}
 use Rattle.judge.proofs.print_answer.Statement.{statement}
 use Rattle.judge.proofs.print_answer.Tie as tie
-use Rattle.judge.proofs.print_answer.Reads as reads
-use Rattle.judge.proofs.print_answer.Lts as lts
-use Rattle.io.proofs.write_all.Reads as write-all-reads
-use Rattle.printed.proofs.write_text.Reads as write-text-reads
 
 -- the text lies within its buffer
 inside : (c : tie.After-write-text) → c .write-text .result ≤ length (c .write-text .last .1 .1 .1 .1 .1 .1 .1 .1 .1 .1 .0)

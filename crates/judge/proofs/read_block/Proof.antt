@@ -7,11 +7,6 @@ use Rattle.judge.proofs.Reading.{goes-by-reader}
 use borrow.Author.Needs.{needs}
 use Rattle.judge.proofs.read_block.Statement.{statement}
 use Rattle.judge.proofs.read_block.Tie as tie
-use Rattle.judge.proofs.read_block.Reads as reads
-use Rattle.judge.proofs.read_block.Lts as lts
-use Rattle.blocks.proofs.feed.Reads as feed-reads
-use Rattle.io.proofs.count.Reads as count-reads
-use Rattle.libc.proofs.read.Reads as read-reads
 
 -- the places of a reader's carry
 held-long : (c : tie.Start) → length (c .args .reader .held) ≡ 21
@@ -44,28 +39,29 @@ same-length-2 : tie.Need-same-length-2
 same-length-2 c = c .before .before .before .before .before .before .before .before .before .before .before .before .before .before .before .before .before .before .before .before .before .before .before .read .kept .1 .0
 
 same-length-3 : tie.Need-same-length-3
-same-length-3 c = search needs
+same-length-3 c = c .before .before .before .before .before .before .before .before .before .before .before .feed .kept .1 .1 .0
 
 same-length-4 : tie.Need-same-length-4
-same-length-4 c = search needs
+same-length-4 c = c .before .before .before .before .before .before .before .before .before .before .before .feed .kept .1 .1 .1 .0
 
 same-length-5 : tie.Need-same-length-5
-same-length-5 c = search needs
+same-length-5 c = c .before .before .before .before .before .before .before .before .before .before .before .feed .kept .1 .1 .1 .1 .0
 
 same-length-6 : tie.Need-same-length-6
-same-length-6 c = search needs
+same-length-6 c = c .before .before .before .before .before .before .before .before .before .before .before .feed .kept .1 .1 .1 .1 .1 .0
 
 same-length-7 : tie.Need-same-length-7
-same-length-7 c = search needs
+same-length-7 c = c .before .before .before .before .before .before .before .before .before .before .before .feed .kept .1 .1 .1 .1 .1 .1 .0
 
 returns-2 : tie.Need-returns-2
 returns-2 c =
-    let start = c .before .before .before .before .before .before .before .before .before .before .before .before .before .before .before .before .before .before .before .before .before .before .before .before .before .before .before .before .before .before in
-    let known = c .before .before .before .before .before .before .before .before .before .before .before .before .before .before .before .before .before .before .before .before .before .slice-known6 .given in
-    let count = c .before .before .before .before .before .before .before .before .before .before .before .before .before .before .before .before .before .before .before .count in
     let feed = c .before .before .before .before .before .before .before .before .before .before .before .feed in
-    let long = c .before .before .before .before .before .before .before .before .before .before .before .before .before .before .before .before .before .before .before .before .before .before .before .read .kept .1 .0 ∙ start .pre .1 in
-    (has-fed _ _ (start .args .reader) _ (start .pre .0 .made) (feed .result) (block-of (count .result) _ long (λ i. omega (arith, known i))) (feed .ensures .0) (feed .ensures .1 .0) (feed .ensures .1 .1 .0) (feed .ensures .1 .1 .1 .0) (feed .ensures .1 .1 .1 .1 .0) (feed .ensures .1 .1 .1 .1 .1), (omega (arith, count .ensures .0 .0, long), goes-by-reader (count .result) (feed .result .reader .refusal) (c .before .before .before .before .before .before .before .before .before .before .before .before .before .before .before .before .before .before .if1 .left)))
+    let ready = c .before .before .before .before .before .before .before .before .before .before .before .before in
+    let count = ready .before .before .before .before .before .before .before .count in
+    let start = ready .before .before .before .before .before .before .before .before .before .before .before .before .before .before .before .before .before .before in
+    let long = ready .before .before .before .before .before .before .before .before .before .before .before .read .kept .1 .0 ∙ start .pre .1 in
+    let bytes = ready .before .before .before .before .before .before .before .before .before .slice-known6 .given in
+    (has-fed _ _ (start .args .reader) _ (start .pre .0 .made) (feed .result) (block-of (count .result) _ long (λ i. omega (arith, bytes i))) (feed .ensures .0) (feed .ensures .1 .0) (feed .ensures .1 .1 .0) (feed .ensures .1 .1 .1 .0) (feed .ensures .1 .1 .1 .1 .0) (feed .ensures .1 .1 .1 .1 .1), (omega (arith, count .ensures .0 .0, long), goes-by-reader (count .result) (feed .result .reader .refusal) (ready .before .before .before .before .before .before .if1 .left)))
 
 pub read-block-spec : {M : Type 1} → statement M
 read-block-spec =

@@ -8,10 +8,6 @@ use Rattle.judge.proofs.Reading.{Stands, stands-first, stands-next, rea
 use borrow.Author.Needs.{needs}
 use Rattle.judge.proofs.read_input.Statement.{statement}
 use Rattle.judge.proofs.read_input.Tie as tie
-use Rattle.judge.proofs.read_input.Reads as reads
-use Rattle.judge.proofs.read_input.Lts as lts
-use Rattle.judge.proofs.read_block.Reads as read-block-reads
-use Rattle.reader.proofs.start.Reads as start-reads
 
 abbrev Inv-loop : tie.InvT-loop
 Inv-loop block₀ states₀ speeds₀ altitudes₀ co2₀ nox₀ input₀ reads₀ block states speeds altitudes co2 nox input reads =
