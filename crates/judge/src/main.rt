@@ -14,9 +14,10 @@ ghost use Prim.Native.Nat.{_≤_};
 ghost use lib.ListN.{length, take};
 ghost use Rattle.second.specs.Lanes.{lanesOf};
 ghost use Rattle.trip.specs.Refusals.{roomsOf};
-ghost use Rattle.report.specs.Lines.{bufferWritten};
+ghost use Rattle.base.specs.Words.{withFront};
+ghost use Rattle.report.specs.Lines.{longestText};
 ghost use Rattle.printed.specs.Printed.{printedText, keptSpeedsLeft, keptCo2Left, endsLeft, ranksLeft};
-ghost use Rattle.judge.specs.Input.{blockMost, Unsettled, HasFed, goesOn, HasRead, JudgedAsOne};
+ghost use Rattle.judge.specs.Input.{blockMost, Unsettled, HasFed, goesOn, HasRead, HasPlaces, JudgedAsOne};
 
 // The most bytes of one read.
 const BLOCK: usize = 4_096;
@@ -83,6 +84,8 @@ fn judge_input(
     text: &mut [u8],
 ) -> bool
     requires { ⌜ length (now block) ≡ blockMost ⌝ }
+    requires { ⌜ HasPlaces (lanesOf (now states) (now speeds) (now altitudes) (now co2) (now nox)) (roomsOf (now «kept_speeds») (now «kept_co2») (now ends) (now ranks)) ⌝ }
+    requires { ⌜ length (now text) ≡ longestText ⌝ }
     ensures judged { λ r. let lanes = lanesOf (now (states .entry)) (now (speeds .entry)) (now (altitudes .entry)) (now (co2 .entry)) (now (nox .entry)) in let rooms = roomsOf (now («kept_speeds» .entry)) (now («kept_co2» .entry)) (now (ends .entry)) (now (ranks .entry)) in ⌜ (r ≡ true → JudgedAsOne lanes rooms (now (text .entry)) (now (text .exit))) ⌝ }
     ensures unjudged { λ r. ⌜ (r ≡ false → now (text .exit) ≡ now (text .entry)) ⌝ }
 {
@@ -121,7 +124,8 @@ fn print_answer(
     ranks: &mut [u32],
     text: &mut [u8],
 )
-    ensures { λ _. let lanes = lanesOf (now (states .entry)) (now (speeds .entry)) (now (altitudes .entry)) (now (co2 .entry)) (now (nox .entry)) in let rooms = roomsOf (now («kept_speeds» .entry)) (now («kept_co2» .entry)) (now (ends .entry)) (now (ranks .entry)) in ⌜ (now (text .exit) ≡ bufferWritten (printedText read lanes rooms) (now (text .entry))) × (now («kept_speeds» .exit) ≡ keptSpeedsLeft read lanes rooms (now («kept_speeds» .entry))) × (now («kept_co2» .exit) ≡ keptCo2Left read lanes rooms (now («kept_co2» .entry))) × (now (ends .exit) ≡ endsLeft read lanes rooms (now (ends .entry))) × (now (ranks .exit) ≡ ranksLeft read lanes rooms (now (ranks .entry))) ⌝ }
+    requires { ⌜ length (now text) ≡ longestText ⌝ }
+    ensures { λ _. let lanes = lanesOf (now (states .entry)) (now (speeds .entry)) (now (altitudes .entry)) (now (co2 .entry)) (now (nox .entry)) in let rooms = roomsOf (now («kept_speeds» .entry)) (now («kept_co2» .entry)) (now (ends .entry)) (now (ranks .entry)) in ⌜ (now (text .exit) ≡ withFront (printedText read lanes rooms) (now (text .entry))) × (now («kept_speeds» .exit) ≡ keptSpeedsLeft read lanes rooms (now («kept_speeds» .entry))) × (now («kept_co2» .exit) ≡ keptCo2Left read lanes rooms (now («kept_co2» .entry))) × (now (ends .exit) ≡ endsLeft read lanes rooms (now (ends .entry))) × (now (ranks .exit) ≡ ranksLeft read lanes rooms (now (ranks .entry))) ⌝ }
 {
     let length = printed::write_text(
         read,

@@ -7,7 +7,7 @@ use Rattle.judge.proofs.judge_input.Statement.{statement}
 use Rattle.judge.proofs.judge_input.Tie as tie
 
 read-input-requires : tie.Need-read-input-requires
-read-input-requires c κs = search needs
+read-input-requires c κs = c .before .before .before .before .before .before .before .before .before .before .before .before .before .before .before .before .pre .0
 
 same-length : tie.Need-same-length
 same-length c = c .before .before .before .before .before .before .before .before .before .before .before .before .before .read-input .kept .0
@@ -34,7 +34,7 @@ end-requires : tie.Need-end-requires
 end-requires c κs = search needs
 
 print-answer-requires : tie.Need-print-answer-requires
-print-answer-requires c κs = search needs
+print-answer-requires c κs = c .before .before .before .before .before .before .before .before .before .before .before .before .before .before .before .before .before .before .before .before .before .before .before .before .before .before .before .before .before .before .before .before .before .before .before .before .before .before .before .before .before .pre .1 .1
 
 same-length-7 : tie.Need-same-length-7
 same-length-7 c = c .before .before .before .before .before .before .before .before .before .before .before .before .before .before .before .before .before .before .before .before .before .before .before .before .before .before .before .before .before .before .before .before .before .before .before .read-input .kept .0
@@ -72,7 +72,7 @@ same-length-17 c = search needs
 returns-2 : tie.Need-returns-2
 returns-2 c =
     let read = c .before .before .before .before .before .before .before .before .before .before .before .before .before .before .before .before .before .before .before .before .before .before .before .before .before .before .before .before .before .before .before .before .before .before .before .read-input in
-    (λ judged. judged-as-one _ (read .result .reader) _ _ (c .before .before .before .before .before .before .before .before .before .before .before .before .before .before .before .before .before .before .before .before .before .end .result) _ _ (read .ensures .0) (c .before .before .before .before .before .before .before .before .before .before .before .before .before .before .before .before .before .before .before .before .before .end .ensures) (c .before .before .before .before .before .before .before .before .before .before .print-answer .ensures .0), λ (failed : true ≡ false). absurd (true≢false failed))
+    (λ judged. judged-as-one _ (read .result .reader) _ _ (c .before .before .before .before .before .before .before .before .before .before .before .before .before .before .before .before .before .before .before .before .before .end .result) _ _ (c .before .before .before .before .before .before .before .before .before .before .before .before .before .before .before .before .before .before .before .before .before .before .before .before .before .before .before .before .before .before .before .before .before .before .before .before .before .before .before .before .before .before .before .before .before .before .before .before .before .before .before .before .pre .1 .0) (read .ensures .0) (c .before .before .before .before .before .before .before .before .before .before .before .before .before .before .before .before .before .before .before .before .before .end .ensures) (c .before .before .before .before .before .before .before .before .before .before .print-answer .ensures .0), λ (failed : true ≡ false). absurd (true≢false failed))
 
 pub judge-input-spec : {M : Type 1} → statement M
 judge-input-spec =
