@@ -12,9 +12,12 @@ use Rattle.stream.proofs.Splitting.{Anywhere, Ends, ends-through, ends-stopped,
 use Rattle.reader.specs.declared.Reader.{Reader}
 use Rattle.reader.specs.Blocks.{zeros, carried, heldIn, standingOf, waiting, settled, started, standsAfter, readerAfter}
 use Rattle.reader.specs.Made.{wasMade}
-use Rattle.judge.specs.Input.{seenBy}
 use Rattle.reader.proofs.Feeding.{reader-open}
 use Rattle.reader.proofs.Making.{usable, held-length, start-made, feeding-made}
+
+-- how many bytes of the stream a reader has seen that is not settled
+abbrev pub seenBy : Reader → ℕ
+seenBy r = r .at + r .count
 
 -- the bytes that settle every stream: a plan, 8,192 seconds with values, and one item more, of which a plan is the longest
 abbrev pub enough : ℕ

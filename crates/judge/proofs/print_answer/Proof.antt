@@ -1,27 +1,27 @@
--- `judge::print_answer` is safe: the text lies within its buffer. Assumes nothing.
+-- `judge::print_answer` meets its contract: what is printed is the text that was written to the buffer. Assumes nothing.
 use Prim.Native.Nat.{_≤_}
-use mathlib.Core.Path.{sym}
+use mathlib.Core.Path.{sym, _∙_}
+use native.Mathlib.Omega.{arith}
 use lib.ListN.{length}
 use lib.Seq.{length-take-le}
-use borrow.Author.Needs.{needs}
+use Rattle.report.proofs.Fitting.{fits-buffer}
 use Rattle.printed.proofs.Texts.{written-inside}
+use borrow.Author.Needs.{needs}
 use Rattle.judge.proofs.print_answer.Statement.{statement}
 use Rattle.judge.proofs.print_answer.Tie as tie
 
+-- the text lies within its buffer
 inside : (c : tie.After-write-text) → c .write-text .result ≤ length (c .write-text .last .1 .1 .1 .1 .1 .1 .1 .1 .1 .1 .0)
 inside c = rw (c .write-text .ensures .0, c .write-text .ensures .1 .0) (written-inside _ _)
-
-slice-aggregate-write-text : tie.Need-slice-aggregate-write-text
-slice-aggregate-write-text c = search needs
 
 write-text-requires : tie.Need-write-text-requires
 write-text-requires c κs = search needs
 
-array-share-prefix-text : tie.Need-array-share-prefix-text
-array-share-prefix-text c = inside (c .before .before .before .before .before .before .before .before .before)
+slice-reshare-prefix-write-all : tie.Need-slice-reshare-prefix-write-all
+slice-reshare-prefix-write-all c = inside (c .before .before .before .before .before .before .before .before .before .before)
 
 slice-aggregate-write-all : tie.Need-slice-aggregate-write-all
-slice-aggregate-write-all c = sym (length-take-le _ _ (inside (c .before .before .before .before .before .before .before .before .before .before)))
+slice-aggregate-write-all c = sym (length-take-le _ _ (inside (c .before .before .before .before .before .before .before .before .before .before .before)))
 
 write-all-requires : tie.Need-write-all-requires
 write-all-requires c κs = search needs
@@ -44,11 +44,13 @@ same-length-3 c = search needs
 same-length-4 : tie.Need-same-length-4
 same-length-4 c = search needs
 
-returns : tie.Need-returns
-returns c = search needs
-
 same-length-5 : tie.Need-same-length-5
 same-length-5 c = search needs
+
+returns : tie.Need-returns
+returns c =
+    let written = c .before .before .before .before .before .before .before .before .before .before .before .before .before .before .before .write-text .ensures .1 in
+    (written .0 ∙ fits-buffer _ _ (omega (arith, written .1 .0, c .before .before .before .before .before .before .before .before .before .before .before .before .before .before .before .before .before .before .before .before .before .before .before .before .before .before .before .before .before .before .pre)), written .1 .1 .0, written .1 .1 .1 .0, written .1 .1 .1 .1 .0, written .1 .1 .1 .1 .1)
 
 same-length-6 : tie.Need-same-length-6
 same-length-6 c = search needs
@@ -59,16 +61,23 @@ same-length-7 c = search needs
 same-length-8 : tie.Need-same-length-8
 same-length-8 c = search needs
 
+same-length-9 : tie.Need-same-length-9
+same-length-9 c = search needs
+
+same-length-10 : tie.Need-same-length-10
+same-length-10 c = search needs
+
 returns-2 : tie.Need-returns-2
-returns-2 c = search needs
+returns-2 c =
+    let written = c .before .before .before .before .before .before .before .before .before .before .before .before .before .write-text .ensures .1 in
+    (written .0 ∙ fits-buffer _ _ (omega (arith, written .1 .0, c .before .before .before .before .before .before .before .before .before .before .before .before .before .before .before .before .before .before .before .before .before .before .before .before .before .before .before .before .pre)), written .1 .1 .0, written .1 .1 .1 .0, written .1 .1 .1 .1 .0, written .1 .1 .1 .1 .1)
 
 pub print-answer-spec : {M : Type 1} → statement M
 print-answer-spec =
     tie.close
     (tie.spec
-    slice-aggregate-write-text
     write-text-requires
-    array-share-prefix-text
+    slice-reshare-prefix-write-all
     slice-aggregate-write-all
     write-all-requires
     slice-aggregate-write-all-2
@@ -77,9 +86,11 @@ print-answer-spec =
     same-length-2
     same-length-3
     same-length-4
-    returns
     same-length-5
+    returns
     same-length-6
     same-length-7
     same-length-8
+    same-length-9
+    same-length-10
     returns-2)

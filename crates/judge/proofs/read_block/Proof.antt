@@ -1,11 +1,10 @@
--- `judge::read_block` meets its contract: a block that came has a byte. Assumes nothing.
-use mathlib.Core.Path.{_≡_, sym}
-use mathlib.Core.Bool.{true, false, true≢false}
+-- `judge::read_block` meets its contract: what came is fed to the reader once, and nothing where nothing came. Assumes nothing.
+use mathlib.Core.Path.{_≡_, refl, _∙_}
 use native.Mathlib.Omega.{arith}
 use lib.ListN.{length}
+use Rattle.judge.proofs.Blocks.{has-fed-nothing, block-of, has-fed}
+use Rattle.judge.proofs.Reading.{goes-by-reader}
 use borrow.Author.Needs.{needs}
-use borrow.Author.Tests.{eqb-true}
-use Rattle.judge.proofs.Reading.{goes-on}
 use Rattle.judge.proofs.read_block.Statement.{statement}
 use Rattle.judge.proofs.read_block.Tie as tie
 
@@ -13,23 +12,22 @@ use Rattle.judge.proofs.read_block.Tie as tie
 held-long : (c : tie.Start) → length (c .args .reader .held) ≡ 21
 held-long c = search needs
 
-slice-aggregate-read : tie.Need-slice-aggregate-read
-slice-aggregate-read c = search needs
-
 read-requires : tie.Need-read-requires
 read-requires c κs = search needs
-
-slice-aggregate-count : tie.Need-slice-aggregate-count
-slice-aggregate-count c = search needs
 
 count-requires : tie.Need-count-requires
 count-requires c κs = search needs
 
-returns : tie.Need-returns
-returns c = λ (going : false ≡ true). absurd (true≢false (sym going))
+same-length : tie.Need-same-length
+same-length c = search needs
 
-array-share-prefix-block : tie.Need-array-share-prefix-block
-array-share-prefix-block c = search needs
+returns : tie.Need-returns
+returns c =
+    let start = c .before .before .before .before .before .before .before .before .before .before .before .before in
+    (has-fed-nothing _ (start .args .reader) (start .pre .0 .made) (held-long start), (omega arith, refl))
+
+slice-reshare-prefix-feed : tie.Need-slice-reshare-prefix-feed
+slice-reshare-prefix-feed c = search needs
 
 slice-aggregate-feed : tie.Need-slice-aggregate-feed
 slice-aggregate-feed c = search needs
@@ -37,42 +35,49 @@ slice-aggregate-feed c = search needs
 feed-requires : tie.Need-feed-requires
 feed-requires c κs = search needs
 
-same-length : tie.Need-same-length
-same-length c = search needs
-
 same-length-2 : tie.Need-same-length-2
-same-length-2 c = search needs
+same-length-2 c = c .before .before .before .before .before .before .before .before .before .before .before .before .before .before .before .before .before .before .before .before .before .before .before .read .kept .1 .0
 
 same-length-3 : tie.Need-same-length-3
-same-length-3 c = search needs
+same-length-3 c = c .before .before .before .before .before .before .before .before .before .before .before .feed .kept .1 .1 .0
 
 same-length-4 : tie.Need-same-length-4
-same-length-4 c = search needs
+same-length-4 c = c .before .before .before .before .before .before .before .before .before .before .before .feed .kept .1 .1 .1 .0
 
 same-length-5 : tie.Need-same-length-5
-same-length-5 c = search needs
+same-length-5 c = c .before .before .before .before .before .before .before .before .before .before .before .feed .kept .1 .1 .1 .1 .0
+
+same-length-6 : tie.Need-same-length-6
+same-length-6 c = c .before .before .before .before .before .before .before .before .before .before .before .feed .kept .1 .1 .1 .1 .1 .0
+
+same-length-7 : tie.Need-same-length-7
+same-length-7 c = c .before .before .before .before .before .before .before .before .before .before .before .feed .kept .1 .1 .1 .1 .1 .1 .0
 
 returns-2 : tie.Need-returns-2
-returns-2 c = λ going.
-    let fed = c .before .before .before .before .before .before .before .before .before .before .before .feed in
-    let count = c .before .before .before .before .before .before .before .before .before .before .before .before .before .before .before .before .before .before .before .count .ensures .0 in
-    goes-on _ (c .before .before .before .before .before .before .before .before .before .before .before .before .before .before .before .before .before .before .before .before .before .before .before .before .before .before .before .before .args .reader) _ (fed .result) (c .before .before .before .before .before .before .before .before .before .before .before .before .before .before .before .before .before .before .before .before .before .before .before .before .before .before .before .before .pre) (held-long (c .before .before .before .before .before .before .before .before .before .before .before .before .before .before .before .before .before .before .before .before .before .before .before .before .before .before .before .before)) (omega (arith, count .1, c .before .before .before .before .before .before .before .before .before .before .before .before .before .before .before .before .before .before .if1 .left)) (fed .ensures .0) (eqb-true _ _ going)
+returns-2 c =
+    let feed = c .before .before .before .before .before .before .before .before .before .before .before .feed in
+    let ready = c .before .before .before .before .before .before .before .before .before .before .before .before in
+    let count = ready .before .before .before .before .before .before .before .count in
+    let start = ready .before .before .before .before .before .before .before .before .before .before .before .before .before .before .before .before .before .before in
+    let long = ready .before .before .before .before .before .before .before .before .before .before .before .read .kept .1 .0 ∙ start .pre .1 in
+    let bytes = ready .before .before .before .before .before .before .before .before .before .slice-known6 .given in
+    (has-fed _ _ (start .args .reader) _ (start .pre .0 .made) (feed .result) (block-of (count .result) _ long (λ i. omega (arith, bytes i))) (feed .ensures .0) (feed .ensures .1 .0) (feed .ensures .1 .1 .0) (feed .ensures .1 .1 .1 .0) (feed .ensures .1 .1 .1 .1 .0) (feed .ensures .1 .1 .1 .1 .1), (omega (arith, count .ensures .0 .0, long), goes-by-reader (count .result) (feed .result .reader .refusal) (ready .before .before .before .before .before .before .if1 .left)))
 
 pub read-block-spec : {M : Type 1} → statement M
 read-block-spec =
     tie.close
     (tie.spec
-    slice-aggregate-read
     read-requires
-    slice-aggregate-count
     count-requires
+    same-length
     returns
-    array-share-prefix-block
+    slice-reshare-prefix-feed
     slice-aggregate-feed
     feed-requires
-    same-length
     same-length-2
     same-length-3
     same-length-4
     same-length-5
+    same-length-6
+    same-length-7
     returns-2)
