@@ -12,7 +12,7 @@ use Rattle.base.specs.Words.{withFront}
 use Rattle.stream.specs.declared.ReadAnswer.{ReadAnswer}
 use Rattle.stream.specs.Reading.{readOf, laneAfter}
 use Rattle.reader.specs.declared.Reader.{Reader}
-use Rattle.reader.specs.Blocks.{started, fedAll, laneAll}
+use Rattle.reader.specs.Blocks.{started, laneAll}
 use Rattle.reader.specs.Made.{endOf}
 use Rattle.reader.proofs.Whole.{blocks-end, blocks-lane}
 use Rattle.second.specs.Lanes.{Lanes}
