@@ -1,25 +1,33 @@
 -- What is printed of blocks that were read is what is printed of the stream that they make. Assumes nothing.
-use Prim.Native.Nat.{ℕ}
+use Prim.Native.Nat.{ℕ, _≤_}
 use mathlib.Core.Path.{_≡_, refl, sym, _∙_, ap}
 use mathlib.Core.Bool.{Bool, true, false}
 use mathlib.Core.List.{List, flatten}
+use native.Mathlib.Omega.{arith}
 use lib.Dec.{eqb}
+use lib.ListN.{length}
 use borrow.Author.Tests.{eqb-true, eqb-false}
 use Rattle.base.specs.Limits.{tripLimit}
 use Rattle.base.specs.Words.{withFront}
 use Rattle.stream.specs.declared.ReadAnswer.{ReadAnswer}
 use Rattle.stream.specs.Reading.{readOf, laneAfter}
 use Rattle.reader.specs.declared.Reader.{Reader}
-use Rattle.reader.specs.Blocks.{started, fedAll, laneAll}
+use Rattle.reader.specs.Blocks.{started, laneAll}
 use Rattle.reader.specs.Made.{endOf}
 use Rattle.reader.proofs.Whole.{blocks-end, blocks-lane}
 use Rattle.second.specs.Lanes.{Lanes}
 use Rattle.trip.specs.declared.Rooms.{Rooms}
+use Rattle.report.specs.Lines.{bufferWritten, longestText}
+use Rattle.report.proofs.Fitting.{fits-buffer}
 use Rattle.printed.specs.Printed.{printedText}
 use Rattle.printed.proofs.Texts.{refused-text}
 use Rattle.judge.specs.Input.{roomIn, eachLane, HasRead, HasPlaces, JudgedAsOne}
 use Rattle.judge.proofs.Lanes.{each-same}
 use Rattle.judge.proofs.Blocks.{flat-bytes}
+
+-- a buffer for the longest text has every text at its front
+pub at-front : (printed before after : List ℕ) → after ≡ bufferWritten printed before → length printed ≤ longestText → length before ≡ longestText → after ≡ withFront printed before
+at-front printed before after written few long = written ∙ fits-buffer printed before (omega arith)
 
 -- where the stream is refused, nothing looks at the lanes; else they are those of the whole-stream call
 text-whole : (before : Lanes) (rooms : Rooms) (blocks : List (List ℕ)) → printedText (readOf (roomIn before) (flatten blocks)) (eachLane (λ A value. laneAll value (roomIn before) started blocks) before) rooms ≡ printedText (readOf (roomIn before) (flatten blocks)) (eachLane (λ A value. laneAfter value (roomIn before) (flatten blocks)) before) rooms

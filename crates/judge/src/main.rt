@@ -36,7 +36,7 @@ struct Input {
 }
 
 // Lends what is filled: a block, nine lanes with a place for each second of the longest trip, and a
-// buffer for the longest text. Says so where the input could not be read.
+// buffer for the longest text. Says on standard error where the input could not be read.
 fn main() {
     let mut block = [0u8; BLOCK];
     let mut states = [0u8; limits::TRIP];

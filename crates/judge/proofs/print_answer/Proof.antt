@@ -1,11 +1,10 @@
 -- `judge::print_answer` meets its contract: what is printed is the text that was written to the buffer. Assumes nothing.
 use Prim.Native.Nat.{_≤_}
-use mathlib.Core.Path.{sym, _∙_}
-use native.Mathlib.Omega.{arith}
+use mathlib.Core.Path.{sym}
 use lib.ListN.{length}
 use lib.Seq.{length-take-le}
-use Rattle.report.proofs.Fitting.{fits-buffer}
 use Rattle.printed.proofs.Texts.{written-inside}
+use Rattle.judge.proofs.Whole.{at-front}
 use borrow.Author.Needs.{needs}
 use Rattle.judge.proofs.print_answer.Statement.{statement}
 use Rattle.judge.proofs.print_answer.Tie as tie
@@ -50,7 +49,7 @@ same-length-5 c = search needs
 returns : tie.Need-returns
 returns c =
     let written = c .before .before .before .before .before .before .before .before .before .before .before .before .before .before .before .write-text .ensures .1 in
-    (written .0 ∙ fits-buffer _ _ (omega (arith, written .1 .0, c .before .before .before .before .before .before .before .before .before .before .before .before .before .before .before .before .before .before .before .before .before .before .before .before .before .before .before .before .before .before .pre)), written .1 .1 .0, written .1 .1 .1 .0, written .1 .1 .1 .1 .0, written .1 .1 .1 .1 .1)
+    (at-front _ _ _ (written .0) (written .1 .0) (c .before .before .before .before .before .before .before .before .before .before .before .before .before .before .before .before .before .before .before .before .before .before .before .before .before .before .before .before .before .before .pre), written .1 .1 .0, written .1 .1 .1 .0, written .1 .1 .1 .1 .0, written .1 .1 .1 .1 .1)
 
 same-length-6 : tie.Need-same-length-6
 same-length-6 c = search needs
@@ -70,7 +69,7 @@ same-length-10 c = search needs
 returns-2 : tie.Need-returns-2
 returns-2 c =
     let written = c .before .before .before .before .before .before .before .before .before .before .before .before .before .write-text .ensures .1 in
-    (written .0 ∙ fits-buffer _ _ (omega (arith, written .1 .0, c .before .before .before .before .before .before .before .before .before .before .before .before .before .before .before .before .before .before .before .before .before .before .before .before .before .before .before .before .pre)), written .1 .1 .0, written .1 .1 .1 .0, written .1 .1 .1 .1 .0, written .1 .1 .1 .1 .1)
+    (at-front _ _ _ (written .0) (written .1 .0) (c .before .before .before .before .before .before .before .before .before .before .before .before .before .before .before .before .before .before .before .before .before .before .before .before .before .before .before .before .pre), written .1 .1 .0, written .1 .1 .1 .0, written .1 .1 .1 .1 .0, written .1 .1 .1 .1 .1)
 
 pub print-answer-spec : {M : Type 1} → statement M
 print-answer-spec =
