@@ -21,9 +21,10 @@ use Rattle.report.specs.Lines.{bufferWritten, longestText}
 use Rattle.report.proofs.Fitting.{fits-buffer}
 use Rattle.printed.specs.Printed.{printedText}
 use Rattle.printed.proofs.Texts.{refused-text}
-use Rattle.judge.specs.Input.{roomIn, eachLane, HasRead, HasPlaces, JudgedAsOne}
-use Rattle.judge.proofs.Lanes.{each-same}
-use Rattle.judge.proofs.Blocks.{flat-bytes}
+use Rattle.input.specs.Input.{roomIn, eachLane, HasRead}
+use Rattle.judge.specs.Judged.{HasPlaces, JudgedAsOne}
+use Rattle.input.proofs.Lanes.{each-same}
+use Rattle.input.proofs.Blocks.{flat-bytes}
 
 -- a buffer for the longest text has every text at its front
 pub at-front : (printed before after : List ℕ) → after ≡ bufferWritten printed before → length printed ≤ longestText → length before ≡ longestText → after ≡ withFront printed before

@@ -1,2 +1,2 @@
--- The definitions of the reading of the input, and of what is printed of it.
-pub mod Input
+-- What the program prints.
+pub mod Judged

@@ -5,40 +5,22 @@
 // written out.
 
 use base::limits;
-use item::kind;
-use reader::Reader;
 use stream::ReadAnswer;
 ghost use mathlib.Core.Path.{_≡_};
 ghost use mathlib.Core.Bool.{true, false};
-ghost use Prim.Native.Nat.{_≤_};
-ghost use lib.ListN.{length, take};
+ghost use lib.ListN.{length};
+ghost use Rattle.base.specs.Words.{withFront};
 ghost use Rattle.second.specs.Lanes.{lanesOf};
 ghost use Rattle.trip.specs.Refusals.{roomsOf};
-ghost use Rattle.base.specs.Words.{withFront};
 ghost use Rattle.report.specs.Lines.{longestText};
 ghost use Rattle.printed.specs.Printed.{printedText, keptSpeedsLeft, keptCo2Left, endsLeft, ranksLeft};
-ghost use Rattle.judge.specs.Input.{blockMost, Unsettled, HasFed, goesOn, HasRead, HasPlaces, JudgedAsOne};
-
-// The most bytes of one read.
-const BLOCK: usize = 4_096;
-
-// So many bytes settle every stream: a plan, the longest trip of seconds with values, and one item
-// more, of which a plan is the longest. A read before the end gives at least one byte, so that no
-// more reads are needed.
-const READS: usize = kind::PLAN_SIZE + limits::TRIP * kind::SECOND_SIZE + kind::PLAN_SIZE;
-
-// Where the reading of the input stands.
-struct Input {
-    reader: Reader,
-    came: usize, // how many bytes the last read brought
-    more: bool, // whether more bytes can come and change the answer
-    failed: bool, // whether a read failed
-}
+ghost use Rattle.input.specs.Input.{blockMost};
+ghost use Rattle.judge.specs.Judged.{HasPlaces, JudgedAsOne};
 
 // Lends what is filled: a block, nine lanes with a place for each second of the longest trip, and a
 // buffer for the longest text. Says on standard error where the input could not be read.
 fn main() {
-    let mut block = [0u8; BLOCK];
+    let mut block = [0u8; input::BLOCK];
     let mut states = [0u8; limits::TRIP];
     let mut speeds = [0u16; limits::TRIP];
     let mut altitudes = [0i32; limits::TRIP];
@@ -89,7 +71,7 @@ fn judge_input(
     ensures judged { λ r. let lanes = lanesOf (now (states .entry)) (now (speeds .entry)) (now (altitudes .entry)) (now (co2 .entry)) (now (nox .entry)) in let rooms = roomsOf (now («kept_speeds» .entry)) (now («kept_co2» .entry)) (now (ends .entry)) (now (ranks .entry)) in ⌜ (r ≡ true → JudgedAsOne lanes rooms (now (text .entry)) (now (text .exit))) ⌝ }
     ensures unjudged { λ r. ⌜ (r ≡ false → now (text .exit) ≡ now (text .entry)) ⌝ }
 {
-    let input = read_input(block, states, speeds, altitudes, co2, nox);
+    let input = input::read_input(block, states, speeds, altitudes, co2, nox);
     let reader = input.reader;
     if input.failed {
         return false;
@@ -142,71 +124,5 @@ fn print_answer(
     );
     if !io::write_all(libc::STDOUT_FILENO, &text[..length]) {
         io::write_all(libc::STDERR_FILENO, b"unwritable\n");
-    }
-}
-
-// Reads the input until no further byte can change the answer: to its end, to the first bad item, or
-// to a read that fails.
-fn read_input(
-    block: &mut [u8],
-    states: &mut [u8],
-    speeds: &mut [u16],
-    altitudes: &mut [i32],
-    co2: &mut [u32],
-    nox: &mut [u32],
-) -> Input
-    requires { ⌜ length (now block) ≡ blockMost ⌝ }
-    ensures read { λ r. let before = lanesOf (now (states .entry)) (now (speeds .entry)) (now (altitudes .entry)) (now (co2 .entry)) (now (nox .entry)) in let after = lanesOf (now (states .exit)) (now (speeds .exit)) (now (altitudes .exit)) (now (co2 .exit)) (now (nox .exit)) in ⌜ HasRead before (r .reader) after ⌝ }
-    ensures ended { λ r. ⌜ goesOn r ≡ false ⌝ }
-{
-    let mut input = Input {
-        reader: reader::start(),
-        came: 0,
-        more: true,
-        failed: false,
-    };
-    let mut reads = READS;
-    while reads > 0 && input.more {
-        let reader = input.reader;
-        input = read_block(reader, block, states, speeds, altitudes, co2, nox);
-        reads -= 1;
-    }
-    input
-}
-
-// Reads a block, as many bytes as there are, and feeds it to the reader. A read that brings no byte is
-// the end of the input, or failed.
-fn read_block(
-    reader: Reader,
-    block: &mut [u8],
-    states: &mut [u8],
-    speeds: &mut [u16],
-    altitudes: &mut [i32],
-    co2: &mut [u32],
-    nox: &mut [u32],
-) -> Input
-    requires { ⌜ Unsettled reader ⌝ }
-    requires { ⌜ length (now block) ≡ blockMost ⌝ }
-    ensures fed { λ r. let before = lanesOf (now (states .entry)) (now (speeds .entry)) (now (altitudes .entry)) (now (co2 .entry)) (now (nox .entry)) in let after = lanesOf (now (states .exit)) (now (speeds .exit)) (now (altitudes .exit)) (now (co2 .exit)) (now (nox .exit)) in ⌜ HasFed before reader (take (r .came) (now (block .exit))) (r .reader) after ⌝ }
-    ensures within { λ r. ⌜ r .came ≤ blockMost ⌝ }
-    ensures goes_on { λ r. ⌜ r .more ≡ goesOn r ⌝ }
-{
-    let got = libc::read(libc::STDIN_FILENO, block);
-    let came = io::count(got, block);
-    if came == 0 {
-        return Input {
-            reader: reader,
-            came: 0,
-            more: false,
-            failed: got < 0,
-        };
-    }
-    let fed = blocks::feed(reader, &block[..came], states, speeds, altitudes, co2, nox);
-    let next = fed.reader;
-    Input {
-        reader: next,
-        came: came,
-        more: next.refusal == base::refusal::ACCEPTED,
-        failed: false,
     }
 }

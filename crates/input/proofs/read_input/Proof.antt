@@ -1,13 +1,13 @@
--- `judge::read_input` meets its contract and ends: each read that leaves the answer unsettled brings a byte, and the reads are as many as
+-- `input::read_input` meets its contract and ends: each read that leaves the answer unsettled brings a byte, and the reads are as many as
 -- the bytes that settle every stream. Assumes nothing.
 use mathlib.Core.Path.{_≡_, refl, _∙_}
 use native.Mathlib.Omega.{arith}
 use lib.ListN.{length}
 use Rattle.second.specs.Lanes.{lanesOf}
-use Rattle.judge.proofs.Reading.{Stands, stands-first, stands-next, reaches-all}
+use Rattle.input.proofs.Reading.{Stands, stands-first, stands-next, reaches-all}
 use borrow.Author.Needs.{needs}
-use Rattle.judge.proofs.read_input.Statement.{statement}
-use Rattle.judge.proofs.read_input.Tie as tie
+use Rattle.input.proofs.read_input.Statement.{statement}
+use Rattle.input.proofs.read_input.Tie as tie
 
 abbrev Inv-loop : tie.InvT-loop
 Inv-loop block₀ states₀ speeds₀ altitudes₀ co2₀ nox₀ input₀ reads₀ block states speeds altitudes co2 nox input reads =

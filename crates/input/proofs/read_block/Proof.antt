@@ -1,12 +1,12 @@
--- `judge::read_block` meets its contract: what came is fed to the reader once, and nothing where nothing came. Assumes nothing.
+-- `input::read_block` meets its contract: what came is fed to the reader once, and nothing where nothing came. Assumes nothing.
 use mathlib.Core.Path.{_≡_, refl, _∙_}
 use native.Mathlib.Omega.{arith}
 use lib.ListN.{length}
-use Rattle.judge.proofs.Blocks.{has-fed-nothing, block-of, has-fed}
-use Rattle.judge.proofs.Reading.{goes-by-reader}
+use Rattle.input.proofs.Blocks.{has-fed-nothing, block-of, has-fed}
+use Rattle.input.proofs.Reading.{goes-by-reader}
 use borrow.Author.Needs.{needs}
-use Rattle.judge.proofs.read_block.Statement.{statement}
-use Rattle.judge.proofs.read_block.Tie as tie
+use Rattle.input.proofs.read_block.Statement.{statement}
+use Rattle.input.proofs.read_block.Tie as tie
 
 -- the places of a reader's carry
 held-long : (c : tie.Start) → length (c .args .reader .held) ≡ 21

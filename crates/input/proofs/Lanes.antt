@@ -8,7 +8,7 @@ use lib.IntN.{ℤ}
 use lib.ListN.{length}
 use Rattle.stream.specs.declared.Row.{Row}
 use Rattle.second.specs.Lanes.{Lanes}
-use Rattle.judge.specs.Input.{roomIn, eachLane}
+use Rattle.input.specs.Input.{roomIn, eachLane}
 
 -- a way to change a lane
 abbrev Change : Type 1

@@ -18,8 +18,8 @@ use Rattle.reader.specs.Made.{wasMade, fedOf, laneFed}
 use Rattle.reader.proofs.Making.{start-made, start-places, feeding-places, fed-nothing}
 use Rattle.reader.proofs.Whole.{fed-made, lane-made, fed-all, lane-all}
 use Rattle.second.specs.Lanes.{Lanes}
-use Rattle.judge.specs.Input.{roomIn, eachLane, blockMost, Block, HasFed, HasRead}
-use Rattle.judge.proofs.Lanes.{each-is, each-same, each-long}
+use Rattle.input.specs.Input.{roomIn, eachLane, blockMost, Block, HasFed, HasRead}
+use Rattle.input.proofs.Lanes.{each-is, each-same, each-long}
 
 -- ---- a read
 pub no-block : Block []

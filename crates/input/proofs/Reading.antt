@@ -13,10 +13,10 @@ use Rattle.reader.specs.Blocks.{waiting, started}
 use Rattle.reader.specs.Made.{wasMade}
 use Rattle.reader.proofs.Making.{start-made, feeding-made}
 use Rattle.second.specs.Lanes.{Lanes}
-use Rattle.judge.specs.declared.Input.{Input}
-use Rattle.judge.specs.Input.{roomIn, blockMost, Unsettled, HasFed, goesOn, HasRead}
-use Rattle.judge.proofs.Blocks.{has-read-nothing, has-read-more, read-places}
-use Rattle.judge.proofs.Settling.{seenBy, enough, seen-more, seen-most}
+use Rattle.input.specs.declared.Input.{Input}
+use Rattle.input.specs.Input.{roomIn, blockMost, Unsettled, HasFed, goesOn, HasRead}
+use Rattle.input.proofs.Blocks.{has-read-nothing, has-read-more, read-places}
+use Rattle.input.proofs.Settling.{seenBy, enough, seen-more, seen-most}
 
 -- ---- whether it goes on
 -- a byte came, and no bad item

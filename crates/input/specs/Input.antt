@@ -1,4 +1,4 @@
--- The reading of the input, read by read, and what is printed of the stream that came.
+-- The reading of the input, read by read.
 use Prim.Native.Nat.{ℕ, _≤_}
 use mathlib.Core.Path.{_≡_}
 use mathlib.Core.Bool.{Bool, true, not, _&&_}
@@ -6,19 +6,15 @@ use mathlib.Core.List.{List, []}
 use lib.Dec.{eqb}
 use lib.IntN.{ℤ}
 use lib.ListN.{length, getD}
-use Rattle.base.specs.Limits.{tripLimit}
 use Rattle.base.specs.Refusal.{accepted}
-use Rattle.base.specs.Words.{withFront}
 use Rattle.item.specs.Format.{Bytes}
 use Rattle.stream.specs.declared.Row.{Row}
-use Rattle.stream.specs.Reading.{roomOf, readOf, laneAfter}
+use Rattle.stream.specs.Reading.{roomOf}
 use Rattle.reader.specs.declared.Reader.{Reader}
 use Rattle.reader.specs.Blocks.{started, readerAfter, laneWith, fedAll, laneAll}
 use Rattle.reader.specs.Made.{wasMade}
 use Rattle.second.specs.Lanes.{Lanes}
-use Rattle.trip.specs.declared.Rooms.{Rooms}
-use Rattle.printed.specs.Printed.{printedText}
-use Rattle.judge.specs.declared.Input.{Input}
+use Rattle.input.specs.declared.Input.{Input}
 
 -- ---- the five lanes
 -- the seconds for which every lane has a place
@@ -68,22 +64,3 @@ pub record HasRead (before : Lanes) (r : Reader) (after : Lanes) : Type 0 where
   pub each : (i : ℕ) → Block (getD blocks i [])
   pub reader : r ≡ fedAll (roomIn before) started blocks
   pub lanes : after ≡ eachLane (λ A value. laneAll value (roomIn before) started blocks) before
-
--- ---- the whole
--- the lanes that are lent have a place for each second of the longest trip
-pub record HasPlaces (lanes : Lanes) (rooms : Rooms) : Type 0 where
-  pub in-states : length (lanes .states) ≡ tripLimit
-  pub in-speeds : length (lanes .speeds) ≡ tripLimit
-  pub in-altitudes : length (lanes .altitudes) ≡ tripLimit
-  pub in-co2 : length (lanes .co2) ≡ tripLimit
-  pub in-nox : length (lanes .nox) ≡ tripLimit
-  pub in-kept-speeds : rooms .speeds ≡ tripLimit
-  pub in-kept-co2 : rooms .co2 ≡ tripLimit
-  pub in-ends : rooms .ends ≡ tripLimit
-  pub in-ranks : rooms .ranks ≡ tripLimit
-
--- the text at the front of a buffer is what the whole-stream call, the evaluation and the report say of one stream
-pub record JudgedAsOne (lanes : Lanes) (rooms : Rooms) (before after : List ℕ) : Type 0 where
-  pub stream : List ℕ
-  pub bytes : Bytes stream
-  pub text : after ≡ withFront (printedText (readOf tripLimit stream) (eachLane (λ A value. laneAfter value tripLimit stream) lanes) rooms) before
