@@ -29,7 +29,7 @@ static const char *const refusals[14] = {
     "a mass is too large", "the plan is absent, late or repeated", "too few values",
     "the reader was changed between two blocks"};
 
-/* By bit of the verdict, from PB_REASON_TRIP_LENGTH to PB_REASON_OUTSIDE_BAND. */
+/* By reason, from PB_REASON_TRIP_LENGTH to PB_REASON_OUTSIDE_BAND. */
 static const char *const reasons[16] = {
     "too short or too long", "too much of it is missing", "a part is too short",
     "the parts are out of proportion", "the urban speed is too low or too high",
@@ -64,9 +64,9 @@ static int judge(pb_plan plan, size_t n)
     for (int i = 0; i < 3; i++)
         printf("%s %u %u\n", names[i], trip.classes[i].windows, trip.classes[i].inside);
     printf("reasons %04x\n", (unsigned)trip.verdict);
-    for (int bit = 0; bit < 16; bit++)
-        if (pb_has_reason(trip.verdict, (uint16_t)(PB_REASON_TRIP_LENGTH << bit)))
-            fprintf(stderr, "not valid: %s\n", reasons[bit]);
+    for (int i = 0, mask = PB_REASON_TRIP_LENGTH; mask <= PB_REASON_OUTSIDE_BAND; i++, mask *= 2)
+        if (pb_has_reason(trip.verdict, (uint16_t)mask))
+            fprintf(stderr, "not valid: %s\n", reasons[i]);
     return trip.verdict == 0 ? VALID : NOT_VALID;
 }
 
