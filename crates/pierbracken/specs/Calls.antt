@@ -2,7 +2,6 @@
 use Prim.Native.Nat.{ℕ}
 use mathlib.Core.Path.{_≡_, refl, sym, _∙_}
 use mathlib.Core.List.{List}
-use lib.IntN.{ℤ}
 use lib.ListN.{length}
 use borrow.Fn.Kinds as contract
 use Rattle.base.specs.declared.Plan.{Plan}
@@ -80,23 +79,17 @@ pub d-of-second : Gives d-of-second-call.Pre d-of-second-call.Post (λ κs a. ac
 d-of-second = record { takes-all = λ κs a. tt; means = λ κs a x e p. (p, refl) }
 
 -- ---- the stream
--- the five lanes that a stream is read into, and those that reading leaves
-pub record StreamLanes : Type 0 where
-  pub states : List ℕ
-  pub speeds : List ℕ
-  pub altitudes : List ℤ
-  pub co2 : List ℕ
-  pub nox : List ℕ
-
--- equal lane by lane
-pub five-lanes : {x y : StreamLanes} → (x .states ≡ y .states) × ((x .speeds ≡ y .speeds) × ((x .altitudes ≡ y .altitudes) × ((x .co2 ≡ y .co2) × (x .nox ≡ y .nox)))) → x ≡ y
+-- five lanes that are equal lane by lane
+pub five-lanes : {x y : Lanes} → (x .states ≡ y .states) × ((x .speeds ≡ y .speeds) × ((x .altitudes ≡ y .altitudes) × ((x .co2 ≡ y .co2) × (x .nox ≡ y .nox)))) → x ≡ y
 five-lanes same i =
     record { states = same .0 i; speeds = same .1 .0 i; altitudes = same .1 .1 .0 i; co2 = same .1 .1 .1 .0 i; nox = same .1 .1 .1 .1 i }
 
-abbrev pub roomIn : StreamLanes → ℕ
+-- the seconds for which every lane has a place
+abbrev pub roomIn : Lanes → ℕ
 roomIn lent = roomOf (lent .states) (lent .speeds) (lent .altitudes) (lent .co2) (lent .nox)
 
-abbrev pub streamLeft : List ℕ → StreamLanes → StreamLanes
+-- the five lanes that reading a stream leaves
+abbrev pub streamLeft : List ℕ → Lanes → Lanes
 streamLeft stream lent =
     record {
       states = laneAfter (λ s. s .state) (roomIn lent) stream (lent .states);
@@ -109,10 +102,10 @@ streamLeft stream lent =
 -- a call that reads a whole stream, the first parameter, into the next five
 abbrev pub ReadsStream : contract.In 6 stream-kinds.ps → contract.Out 6 stream-kinds.ps stream-kinds.r → Type 0
 ReadsStream asks allows =
-    Answers StreamLanes asks allows
-    (λ κs a. readOf (roomOf (a .1 .0 .now) (a .1 .1 .0 .now) (a .1 .1 .1 .0 .now) (a .1 .1 .1 .1 .0 .now) (a .1 .1 .1 .1 .1 .0 .now)) (a .0 .now))
-    (λ κs e. record { states = e .1 .0 .now; speeds = e .1 .1 .0 .now; altitudes = e .1 .1 .1 .0 .now; co2 = e .1 .1 .1 .1 .0 .now; nox = e .1 .1 .1 .1 .1 .0 .now })
-    (λ κs a. streamLeft (a .0 .now) (record { states = a .1 .0 .now; speeds = a .1 .1 .0 .now; altitudes = a .1 .1 .1 .0 .now; co2 = a .1 .1 .1 .1 .0 .now; nox = a .1 .1 .1 .1 .1 .0 .now }))
+    Answers Lanes asks allows
+    (λ κs a. readOf (roomIn (lanesOf (a .1 .0 .now) (a .1 .1 .0 .now) (a .1 .1 .1 .0 .now) (a .1 .1 .1 .1 .0 .now) (a .1 .1 .1 .1 .1 .0 .now))) (a .0 .now))
+    (λ κs e. lanesOf (e .1 .0 .now) (e .1 .1 .0 .now) (e .1 .1 .1 .0 .now) (e .1 .1 .1 .1 .0 .now) (e .1 .1 .1 .1 .1 .0 .now))
+    (λ κs a. streamLeft (a .0 .now) (lanesOf (a .1 .0 .now) (a .1 .1 .0 .now) (a .1 .1 .1 .0 .now) (a .1 .1 .1 .1 .0 .now) (a .1 .1 .1 .1 .1 .0 .now)))
 
 pub read-stream : ReadsStream read-stream-call.Pre read-stream-call.Post
 read-stream =
@@ -129,7 +122,7 @@ pub start : Starts start-call.Pre start-call.Post
 start = record { takes-all = λ κs a. tt; means = λ κs a x e p. (p, refl) }
 
 -- the lanes after a block
-abbrev pub blockLeft : Reader → List ℕ → StreamLanes → StreamLanes
+abbrev pub blockLeft : Reader → List ℕ → Lanes → Lanes
 blockLeft reader block lent =
     record {
       states = laneFed (λ s. s .state) (roomIn lent) reader block (lent .states);
@@ -142,10 +135,10 @@ blockLeft reader block lent =
 -- a call that feeds a block, the second parameter, to a reader, the first, and to the five lanes after them
 abbrev pub Feeds : contract.In 6 feed-kinds.ps → contract.Out 6 feed-kinds.ps feed-kinds.r → Type 0
 Feeds asks allows =
-    Answers StreamLanes asks allows
-    (λ κs a. fedOf (roomOf (a .1 .1 .0 .now) (a .1 .1 .1 .0 .now) (a .1 .1 .1 .1 .0 .now) (a .1 .1 .1 .1 .1 .0 .now) (a .1 .1 .1 .1 .1 .1 .0 .now)) (a .0) (a .1 .0 .now))
-    (λ κs e. record { states = e .1 .1 .0 .now; speeds = e .1 .1 .1 .0 .now; altitudes = e .1 .1 .1 .1 .0 .now; co2 = e .1 .1 .1 .1 .1 .0 .now; nox = e .1 .1 .1 .1 .1 .1 .0 .now })
-    (λ κs a. blockLeft (a .0) (a .1 .0 .now) (record { states = a .1 .1 .0 .now; speeds = a .1 .1 .1 .0 .now; altitudes = a .1 .1 .1 .1 .0 .now; co2 = a .1 .1 .1 .1 .1 .0 .now; nox = a .1 .1 .1 .1 .1 .1 .0 .now }))
+    Answers Lanes asks allows
+    (λ κs a. fedOf (roomIn (lanesOf (a .1 .1 .0 .now) (a .1 .1 .1 .0 .now) (a .1 .1 .1 .1 .0 .now) (a .1 .1 .1 .1 .1 .0 .now) (a .1 .1 .1 .1 .1 .1 .0 .now))) (a .0) (a .1 .0 .now))
+    (λ κs e. lanesOf (e .1 .1 .0 .now) (e .1 .1 .1 .0 .now) (e .1 .1 .1 .1 .0 .now) (e .1 .1 .1 .1 .1 .0 .now) (e .1 .1 .1 .1 .1 .1 .0 .now))
+    (λ κs a. blockLeft (a .0) (a .1 .0 .now) (lanesOf (a .1 .1 .0 .now) (a .1 .1 .1 .0 .now) (a .1 .1 .1 .1 .0 .now) (a .1 .1 .1 .1 .1 .0 .now) (a .1 .1 .1 .1 .1 .1 .0 .now)))
 
 pub feed : Feeds feed-call.Pre feed-call.Post
 feed =
