@@ -293,7 +293,7 @@ typedef struct pb_sweep_answer {
  * where it was over (examples/c/between_samples.c).
  *
  * A call first looks at every mass, and sums those taken and not dropped, whatever the budget. At
- * 8,100 kept seconds this takes about 1 us on the machine of docs/PERFORMANCE.md, as long as 1,500
+ * 8,100 kept seconds this takes about 1 us on the machine of docs/PERFORMANCE.md, as long as 2,000
  * moves: who sweeps a little after each second pays it each time, and a budget of a hundred moves
  * costs hardly more than a budget of one.
  */

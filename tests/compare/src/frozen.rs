@@ -72,8 +72,9 @@ fn block(named: &Named, rules: &Rules) -> String {
 pub fn compare(account: &mut Account) {
     let release = library::meaning();
     let Some(own) = set(release) else {
-        println!("release {release} has no frozen set: `compare --freeze` makes one");
-        account.compare("the frozen set of this release", |_| {});
+        account.compare("the frozen set of this release", |_| {
+            println!("release {release} has no frozen set: `compare --freeze` makes one");
+        });
         return;
     };
     let name = format!("release {release}, what was frozen of it, by this build");

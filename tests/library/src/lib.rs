@@ -7,8 +7,8 @@ pub mod probe;
 mod raw;
 
 pub use raw::{
-    AccelerationAnswer, Bin, Class, Fed, ItemAnswer, MassAnswer, PercentileAnswer, Plan,
-    ReadAnswer, Reader, ReaderBytes, Setting, SweepAnswer, SweepState, Tally, TripAnswer,
+    bytes_of_plan, AccelerationAnswer, Bin, Class, Fed, ItemAnswer, MassAnswer, PercentileAnswer,
+    Plan, ReadAnswer, Reader, ReaderBytes, Setting, SweepAnswer, SweepState, Tally, TripAnswer,
 };
 
 /// The release of the meaning of "valid" by which this build answers.
@@ -71,12 +71,13 @@ pub fn start() -> Reader {
     unsafe { raw::pb_start() }
 }
 
-/// Feeds a block of a stream, cut anywhere.
-pub fn feed(reader: Reader, block: &[u8], lanes: Lanes) -> Fed {
-    // Safety: each pointer and the count after it are those of one slice, and no two overlap.
+/// Feeds a block of a stream, cut anywhere, to a reader, which may be any bytes.
+pub fn feed(reader: impl Into<ReaderBytes>, block: &[u8], lanes: Lanes) -> Fed {
+    // Safety: a reader's members are numbers, so that its bytes may be any; each pointer and the
+    // count after it are those of one slice, and no two overlap.
     unsafe {
         raw::pb_feed(
-            reader,
+            reader.into(),
             block.as_ptr(),
             block.len(),
             lanes.states.as_mut_ptr(),
@@ -93,38 +94,10 @@ pub fn feed(reader: Reader, block: &[u8], lanes: Lanes) -> Fed {
     }
 }
 
-/// Feeds a block to a reader of any bytes.
-pub fn feed_bytes(reader: ReaderBytes, block: &[u8], lanes: Lanes) -> Fed {
-    // Safety: as for `feed`; a reader's members are numbers, so that its bytes may be any.
-    unsafe {
-        raw::pb_feed_bytes(
-            reader,
-            block.as_ptr(),
-            block.len(),
-            lanes.states.as_mut_ptr(),
-            lanes.states.len(),
-            lanes.speeds.as_mut_ptr(),
-            lanes.speeds.len(),
-            lanes.altitudes.as_mut_ptr(),
-            lanes.altitudes.len(),
-            lanes.co2.as_mut_ptr(),
-            lanes.co2.len(),
-            lanes.nox.as_mut_ptr(),
-            lanes.nox.len(),
-        )
-    }
-}
-
-/// The answer at the end, of a reader of any bytes.
-pub fn end_bytes(reader: ReaderBytes) -> ReadAnswer {
-    // Safety: as for `end`; a reader's members are numbers, so that its bytes may be any.
-    unsafe { raw::pb_end_bytes(reader) }
-}
-
-/// The answer at the end of a stream that came in blocks.
-pub fn end(reader: Reader) -> ReadAnswer {
-    // Safety: plain numbers go in and come out.
-    unsafe { raw::pb_end(reader) }
+/// The answer at the end of a stream that came in blocks, of a reader, which may be any bytes.
+pub fn end(reader: impl Into<ReaderBytes>) -> ReadAnswer {
+    // Safety: a reader's members are numbers, so that its bytes may be any.
+    unsafe { raw::pb_end(reader.into()) }
 }
 
 /// A budget of moves of the sweep, from a state.

@@ -1,5 +1,7 @@
 //! The declarations of include/pierbracken.h.
 
+use std::mem::offset_of;
+
 /// `pb_setting`
 #[repr(C)]
 #[derive(Clone, Copy, Debug, PartialEq)]
@@ -69,13 +71,35 @@ pub struct Reader {
     pub held: [u8; 21],
 }
 
-/// `pb_reader` as its bytes, what lies between the members too: from C any value may come.
+/// `pb_reader` as its bytes, what lies between the members too: from C any value may come. A struct
+/// that is too large for registers crosses as it lies in memory, whatever its members are.
 #[repr(C, align(8))]
 #[derive(Clone, Copy, Debug, PartialEq, Eq)]
 pub struct ReaderBytes(pub [u8; 72]);
 
 const _: () = assert!(size_of::<ReaderBytes>() == size_of::<Reader>());
 const _: () = assert!(align_of::<ReaderBytes>() == align_of::<Reader>());
+
+/// Zeros lie between the members.
+impl From<Reader> for ReaderBytes {
+    fn from(reader: Reader) -> ReaderBytes {
+        let mut bytes = [0; size_of::<Reader>()];
+        let mut put = |at: usize, part: &[u8]| bytes[at..at + part.len()].copy_from_slice(part);
+        put(offset_of!(Reader, refusal), &[reader.refusal]);
+        put(offset_of!(Reader, plan), &bytes_of_plan(reader.plan));
+        put(offset_of!(Reader, seconds), &reader.seconds.to_ne_bytes());
+        put(offset_of!(Reader, at), &reader.at.to_ne_bytes());
+        put(offset_of!(Reader, count), &reader.count.to_ne_bytes());
+        put(offset_of!(Reader, held), &reader.held);
+        ReaderBytes(bytes)
+    }
+}
+
+/// The bytes of a plan, as they lie in memory.
+pub fn bytes_of_plan(plan: Plan) -> [u8; size_of::<Plan>()] {
+    // Safety: nothing lies between the members of a plan, so that every byte is one of a number.
+    unsafe { std::mem::transmute(plan) }
+}
 
 /// `pb_fed`
 #[repr(C)]
@@ -197,7 +221,7 @@ extern "C" {
     ) -> ReadAnswer;
     pub fn pb_start() -> Reader;
     pub fn pb_feed(
-        reader: Reader,
+        reader: ReaderBytes,
         block: *const u8,
         block_bytes: usize,
         states: *mut u8,
@@ -211,7 +235,7 @@ extern "C" {
         nox: *mut u32,
         nox_places: usize,
     ) -> Fed;
-    pub fn pb_end(reader: Reader) -> ReadAnswer;
+    pub fn pb_end(reader: ReaderBytes) -> ReadAnswer;
     pub fn pb_sweep(
         reference: u32,
         co2: *const u32,
@@ -262,28 +286,4 @@ extern "C" {
         ranks_places: usize,
     ) -> TripAnswer;
     pub fn pb_has_reason(verdict: u16, mask: u16) -> bool;
-}
-
-// The calls that take a reader, with its bytes: a struct that is too large for registers crosses
-// as it lies in memory, whatever its members are.
-#[allow(clashing_extern_declarations)]
-extern "C" {
-    #[link_name = "pb_feed"]
-    pub fn pb_feed_bytes(
-        reader: ReaderBytes,
-        block: *const u8,
-        block_bytes: usize,
-        states: *mut u8,
-        states_places: usize,
-        speeds: *mut u16,
-        speeds_places: usize,
-        altitudes: *mut i32,
-        altitudes_places: usize,
-        co2: *mut u32,
-        co2_places: usize,
-        nox: *mut u32,
-        nox_places: usize,
-    ) -> Fed;
-    #[link_name = "pb_end"]
-    pub fn pb_end_bytes(reader: ReaderBytes) -> ReadAnswer;
 }

@@ -3,18 +3,17 @@
 
 use std::mem::offset_of;
 
-use library::SweepState;
+use library::{bytes_of_plan, SweepState};
 use oracle::second::Second;
 use oracle::{windows, Plan, Rules};
 
 use crate::account::{Account, Comparison};
 use crate::case::{Case, MassInput, SweepInput, TripInput};
-use crate::lanes::Lanes;
+use crate::lanes::{plan_of, Lanes};
 use crate::random::Random;
 
 mod readers;
 
-const PLAN_BYTES: usize = size_of::<library::Plan>();
 const STATE_BYTES: usize = size_of::<SweepState>();
 const SETTING_BYTES: usize = size_of::<library::Setting>();
 
@@ -42,15 +41,6 @@ fn each_value<const N: usize>(bytes: [u8; N], mut take: impl FnMut([u8; N])) {
 /// So many bytes from `at` on.
 fn part<const N: usize>(bytes: &[u8], at: usize) -> [u8; N] {
     bytes[at..at + N].try_into().expect("bytes of a struct")
-}
-
-/// The bytes of a plan, as they lie in memory; nothing lies between its members.
-fn bytes_of_plan(plan: &Plan) -> [u8; PLAN_BYTES] {
-    let [e1, e2, e3] = plan.curve().map(u32::to_ne_bytes);
-    let [urban, rural, motorway] = plan.upper;
-    let tolerances = [plan.lower, urban, rural, motorway];
-    let members = [plan.reference.to_ne_bytes(), e1, e2, e3, tolerances];
-    part(members.as_flattened(), 0)
 }
 
 /// The plan that lies in these bytes.
@@ -172,7 +162,7 @@ fn plans(comparison: &mut Comparison, seed: u64) {
     let ends = [even_plan(1, 1, 0), even_plan(20_000_000, 2_000_000, 100)];
     let between = [even_plan(3_000, e, 25), even_plan(9_000, e, 9)];
     for plan in ends.into_iter().chain(between) {
-        each_value(bytes_of_plan(&plan), |bytes| {
+        each_value(bytes_of_plan(plan_of(&plan)), |bytes| {
             comparison.case(&Case::Trip(TripInput {
                 plan: plan_in(&bytes),
                 trip: trip.clone(),

@@ -7,7 +7,7 @@ use library::{Fed, Reader, ReaderBytes};
 use oracle::reader::{leading_to, Reader as OnPaper, SoFar};
 use oracle::{Plan, Refusal, Rules};
 
-use super::{bytes_of_plan, each_value, part, plan_in};
+use super::{each_value, part, plan_in};
 use crate::account::{Account, Comparison};
 use crate::lanes::{answer_by_paper, plan_of, Lanes};
 use crate::random::Random;
@@ -30,15 +30,7 @@ pub fn compare(account: &mut Account) {
 
 /// The bytes of a reader, zeros between its members.
 fn bytes_of(reader: &OnPaper) -> [u8; READER_BYTES] {
-    let mut bytes = [0; READER_BYTES];
-    let mut put = |at: usize, part: &[u8]| bytes[at..at + part.len()].copy_from_slice(part);
-    put(offset_of!(Reader, refusal), &[reader.refusal]);
-    put(offset_of!(Reader, plan), &bytes_of_plan(&reader.plan));
-    put(offset_of!(Reader, seconds), &reader.seconds.to_ne_bytes());
-    put(offset_of!(Reader, at), &reader.at.to_ne_bytes());
-    put(offset_of!(Reader, count), &reader.count.to_ne_bytes());
-    put(offset_of!(Reader, held), &reader.held);
-    bytes
+    ReaderBytes::from(reader_of(reader)).0
 }
 
 /// The reader that lies in these bytes.
@@ -89,7 +81,7 @@ fn fed_and_ended(
     let stream = leading_to(&comparison.rules, &reader_in(&bytes));
     for block in blocks {
         let (mut ours, mut theirs) = (untouched.clone(), untouched.clone());
-        let got = library::feed_bytes(ReaderBytes(bytes), block, ours.lent());
+        let got = library::feed(ReaderBytes(bytes), block, ours.lent());
         let wanted = fed_by_paper(&comparison.rules, stream.as_ref(), block, &mut theirs);
         comparison.same((got, ours == theirs), (wanted, true), || {
             format!(
@@ -102,7 +94,7 @@ fn fed_and_ended(
         Some(stream) => stream.end().map(|found| (found.plan, found.seconds)),
         None => Err(Refusal::new(NEVER_MADE)),
     };
-    let got = library::end_bytes(ReaderBytes(bytes));
+    let got = library::end(ReaderBytes(bytes));
     comparison.same(got, answer_by_paper(ended), || {
         format!("reader {bytes:02x?}, ended")
     });
