@@ -6,7 +6,7 @@ use mathlib.Core.List.{List, [], _∷_}
 use native.Mathlib.Omega.{arith}
 use lib.ListN.{length, getD, List·getD-eq-default}
 use Rattle.base.specs.Second.{measured}
-use Rattle.second.specs.Lanes.{hasValues}
+use Rattle.second.specs.Row.{hasValues}
 use Rattle.acceleration.specs.D.{speedBefore, speedAfter, hasBefore, hasAfter}
 
 -- inside a list it does not matter what is read outside

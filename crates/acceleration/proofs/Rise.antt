@@ -14,7 +14,8 @@ use Rattle.second.specs.Bins.{binOf}
 use Rattle.base.proofs.Tests.{and-right}
 use Rattle.acceleration.specs.declared.Acceleration.the-variants.{Rising, Falling}
 use Rattle.acceleration.specs.D.{speedBefore, speedAfter, dOf, hasD, numbered}
-use Rattle.acceleration.specs.Products.{counts, productOf, countsIn, productCode}
+use Rattle.acceleration.specs.Inside.{productCode}
+use Rattle.acceleration.specs.Products.{counts, productOf, countsIn}
 
 -- a - b is above 72 exactly when a is above b + 72
 above : (a b : ℕ) → ltZ (pos 72) (subℕ a b) ≡ ltb (b + 72) a

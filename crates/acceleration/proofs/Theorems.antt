@@ -1,6 +1,6 @@
--- What D of one second amounts to: refused exactly when, what each case of the answer says. Assumes nothing.
+-- What D of one second amounts to: refused exactly when, and the answer where it is not. Assumes nothing.
 use Prim.Native.Nat.{ℕ}
-use mathlib.Core.Path.{_≡_, refl}
+use mathlib.Core.Path.{_≡_, refl, ap}
 use mathlib.Core.Bool.{Bool, true, false, not, _||_, or-true}
 use mathlib.Core.Logic.{inl, inr, _↔_}
 use borrow.Author.Tests.{ltb-true, ltb-false, leb-true, leb-false, lt-ltb, le-ltb, le-leb, lt-leb, eq-eqb}
@@ -12,10 +12,11 @@ use Rattle.base.specs.Second.{tooMany}
 use Rattle.base.specs.Words.{pick}
 use Rattle.base.specs.declared.Fault.{Fault}
 use Rattle.second.specs.Lanes.{Lanes, secondsIn, lanesAgree, firstBadSecond, noneHasValues}
-use Rattle.second.proofs.Lanes.{agree, agrees, not-agree, none-each, each-none}
-use Rattle.acceleration.specs.declared.Acceleration.{Acceleration}
-use Rattle.acceleration.specs.declared.Acceleration.the-variants.{Rising, Falling, None, Refused}
-use Rattle.acceleration.specs.D.{dOf, hasD, numbered, faultOf, accelerationOf, refusalOf, placeOf, isNumber, valueOf}
+use Rattle.second.proofs.Lanes.{agree, agrees, not-agree}
+use Rattle.second.proofs.Facts.{first-bad-at, is-first-bad, has-bad, all-in-range, has-no-bad, says-none, some-second, says-some}
+use Rattle.second.proofs.Facts as facts
+use Rattle.acceleration.specs.declared.Acceleration.the-variants.{None, Refused}
+use Rattle.acceleration.specs.D.{dOf, hasD, numbered, faultOf, accelerationOf, faultIn}
 use Rattle.acceleration.specs.Outcomes.{Outcome, lanes-differ, too-many, out-of-range, no-second, fine}
 
 module _ (trip : Lanes) (i : ℕ) where
@@ -33,10 +34,10 @@ module _ (trip : Lanes) (i : ℕ) where
       go : (t₁ : Bool) → lanesAgree trip ≡ t₁ → (t₂ : Bool) → tooMany n ≡ t₂ → (t₃ : Bool) → ltb bad n ≡ t₃ → (t₄ : Bool) → noneHasValues (trip .states) ≡ t₄ → (t₅ : Bool) → leb n i ≡ t₅ → Outcome trip i (pick (not t₁) (fault 1 0) (pick t₂ (fault 2 0) (pick t₃ (fault 3 bad) (pick (t₄ || t₅) (fault 4 0) (fault 0 0)))))
       go false e₁ t₂ e₂ t₃ e₃ t₄ e₄ t₅ e₅ = lanes-differ (not-agree trip e₁)
       go true e₁ true e₂ t₃ e₃ t₄ e₄ t₅ e₅ = too-many (agree trip e₁) (ltb-true tripLimit n e₂)
-      go true e₁ false e₂ true e₃ t₄ e₄ t₅ e₅ = out-of-range (agree trip e₁) (ltb-false tripLimit n e₂) (ltb-true bad n e₃)
-      go true e₁ false e₂ false e₃ true e₄ t₅ e₅ = no-second (agree trip e₁) (ltb-false tripLimit n e₂) (ltb-false bad n e₃) (inl (none-each (trip .states) e₄))
-      go true e₁ false e₂ false e₃ false e₄ true e₅ = no-second (agree trip e₁) (ltb-false tripLimit n e₂) (ltb-false bad n e₃) (inr (leb-true n i e₅))
-      go true e₁ false e₂ false e₃ false e₄ false e₅ = fine (agree trip e₁) (ltb-false tripLimit n e₂) (ltb-false bad n e₃) e₄ (leb-false n i e₅)
+      go true e₁ false e₂ true e₃ t₄ e₄ t₅ e₅ = out-of-range (agree trip e₁) (ltb-false tripLimit n e₂) bad (first-bad-at trip e₃)
+      go true e₁ false e₂ false e₃ true e₄ t₅ e₅ = no-second (agree trip e₁) (ltb-false tripLimit n e₂) (all-in-range trip e₃) (inl (facts.no-second trip e₄))
+      go true e₁ false e₂ false e₃ false e₄ true e₅ = no-second (agree trip e₁) (ltb-false tripLimit n e₂) (all-in-range trip e₃) (inr (leb-true n i e₅))
+      go true e₁ false e₂ false e₃ false e₄ false e₅ = fine (agree trip e₁) (ltb-false tripLimit n e₂) (all-in-range trip e₃) (some-second trip e₄) (leb-false n i e₅)
 
   -- and no other: each is given whenever what it says holds
   pub only : {f : Fault} → Outcome trip i f → faultOf trip i ≡ f
@@ -47,29 +48,29 @@ module _ (trip : Lanes) (i : ℕ) where
       go false e = rw e refl
       go true e = absurd (differ (agree trip e))
   only (too-many same h) = rw (agrees trip same, lt-ltb tripLimit n h) refl
-  only (out-of-range same few h) = rw (agrees trip same, le-ltb tripLimit n few, lt-ltb bad n h) refl
-  only (no-second same few good (inl none)) = rw (agrees trip same, le-ltb tripLimit n few, le-ltb bad n good, each-none (trip .states) none) refl
-  only (no-second same few good (inr past)) = rw (agrees trip same, le-ltb tripLimit n few, le-ltb bad n good, le-leb n i past, or-true (noneHasValues (trip .states))) refl
-  only (fine same few good some inside) = rw (agrees trip same, le-ltb tripLimit n few, le-ltb bad n good, some, lt-leb n i inside) refl
+  only (out-of-range same few bad at) = rw (agrees trip same, le-ltb tripLimit n few, has-bad trip bad at) (ap (fault 3) (is-first-bad trip bad at))
+  only (no-second same few good (inl none)) = rw (agrees trip same, le-ltb tripLimit n few, has-no-bad trip good, says-none trip none) refl
+  only (no-second same few good (inr past)) = rw (agrees trip same, le-ltb tripLimit n few, has-no-bad trip good, le-leb n i past, or-true (noneHasValues (trip .states))) refl
+  only (fine same few good some inside) = rw (agrees trip same, le-ltb tripLimit n few, has-no-bad trip good, says-some trip some, lt-leb n i inside) refl
 
   -- the call gives a number and a place exactly when what stands beside them holds
   pub refused-exactly : (f : Fault) → (faultOf trip i ≡ f) ↔ Outcome trip i f
   refused-exactly f = (λ e. rw e at outcome, only)
 
   -- the answer's number and place are those of the chain of tests
-  pub answer-fault : fault (refusalOf (accelerationOf trip i)) (placeOf (accelerationOf trip i)) ≡ faultOf trip i
-  unfolding accelerationOf refusalOf placeOf numbered
+  pub answer-fault : faultIn (accelerationOf trip i) ≡ faultOf trip i
+  unfolding accelerationOf faultIn numbered
   answer-fault = go (faultOf trip i) outcome
     where
-      accepted-fault : (t : Bool) (z : ℤ) → fault (refusalOf (pick t (numbered z) None)) (placeOf (pick t (numbered z) None)) ≡ fault 0 0
+      accepted-fault : (t : Bool) (z : ℤ) → faultIn (pick t (numbered z) None) ≡ fault 0 0
       accepted-fault true (pos d) = refl
       accepted-fault true (negsuc d) = refl
       accepted-fault false z = refl
 
-      go : (f : Fault) → Outcome trip i f → fault (refusalOf (pick (eqb (f .number) 0) (pick (hasD (trip .states) i) (numbered (dOf (trip .speeds) i)) None) (Refused f))) (placeOf (pick (eqb (f .number) 0) (pick (hasD (trip .states) i) (numbered (dOf (trip .speeds) i)) None) (Refused f))) ≡ f
+      go : (f : Fault) → Outcome trip i f → faultIn (pick (eqb (f .number) 0) (pick (hasD (trip .states) i) (numbered (dOf (trip .speeds) i)) None) (Refused f)) ≡ f
       go _ (lanes-differ differ) = refl
       go _ (too-many same h) = refl
-      go _ (out-of-range same few h) = refl
+      go _ (out-of-range same few bad at) = refl
       go _ (no-second same few good none) = refl
       go _ (fine same few good some inside) = accepted-fault (hasD (trip .states) i) (dOf (trip .speeds) i)
 
@@ -81,27 +82,3 @@ module _ (trip : Lanes) (i : ℕ) where
   pub accepted-none : faultOf trip i .number ≡ 0 → hasD (trip .states) i ≡ false → accelerationOf trip i ≡ None
   unfolding accelerationOf
   accepted-none h none = rw (eq-eqb (faultOf trip i .number) 0 h, none) refl
-
-  -- so the answer is a number exactly where the second has D
-  pub accepted-number : faultOf trip i .number ≡ 0 → isNumber (accelerationOf trip i) ≡ hasD (trip .states) i
-  unfolding accelerationOf isNumber numbered
-  accepted-number h = rw (eq-eqb (faultOf trip i .number) 0 h) (go (hasD (trip .states) i) (dOf (trip .speeds) i))
-    where
-      go : (t : Bool) (z : ℤ) → isNumber (pick t (numbered z) None) ≡ t
-      go true (pos d) = refl
-      go true (negsuc d) = refl
-      go false z = refl
-
--- the case of a number says that number
-pub number-of : (z : ℤ) → valueOf (numbered z) ≡ z
-unfolding valueOf numbered
-number-of (pos d) = refl
-number-of (negsuc d) = refl
-
--- a refusal has no D
-pub refused-no-d : (answer : Acceleration) → (refusalOf answer ≡ 0 → ⊥) → valueOf answer ≡ pos 0
-unfolding refusalOf valueOf
-refused-no-d (Rising d) h = absurd (h refl)
-refused-no-d (Falling d) h = absurd (h refl)
-refused-no-d None h = absurd (h refl)
-refused-no-d (Refused f) h = refl

@@ -12,7 +12,8 @@ use Rattle.base.proofs.Choice.{both-ways}
 use Rattle.base.proofs.Seconds.{after-none, after-more}
 use Rattle.base.proofs.Sums.{sum-append}
 use Rattle.acceleration.specs.declared.Products.{Products}
-use Rattle.acceleration.specs.Products.{productOf, countsIn, productsAfter, productCode, figuresOf}
+use Rattle.acceleration.specs.Inside.{productCode, figuresOf}
+use Rattle.acceleration.specs.Products.{productOf, countsIn, productsAfter}
 
 module _ (bin : ℕ) (states speeds : List ℕ) where
   pub products-none : productsAfter bin states speeds 0 ≡ []

@@ -1,15 +1,16 @@
 -- D of a second (Appendix 7a). Seconds are counted from 0.
 use Prim.Native.Nat.{ℕ, zero, suc, _+_}
-use mathlib.Core.Bool.{Bool, true, false, not, _&&_, _||_}
+use mathlib.Core.Bool.{Bool, true, not, _&&_, _||_}
 use mathlib.Core.List.{List}
 use lib.Dec.{leb, ltb, eqb}
-use lib.IntN.{ℤ, pos, negsuc, negℤ, _-ℤ_}
+use lib.IntN.{ℤ, pos, negsuc, _-ℤ_}
 use lib.ListN.{getD}
 use Rattle.base.specs.Refusal.{accepted, lanesDiffer, tooManyValues, outOfRange, noSecond, fault}
 use Rattle.base.specs.Second.{measured, tooMany}
 use Rattle.base.specs.Words.{pick}
 use Rattle.base.specs.declared.Fault.{Fault}
-use Rattle.second.specs.Lanes.{Lanes, secondsIn, lanesAgree, hasValues, firstBadSecond, noneHasValues}
+use Rattle.second.specs.Row.{hasValues}
+use Rattle.second.specs.Lanes.{Lanes, secondsIn, lanesAgree, firstBadSecond, noneHasValues}
 use Rattle.acceleration.specs.declared.Acceleration.{Acceleration}
 use Rattle.acceleration.specs.declared.Acceleration.the-variants.{Rising, Falling, None, Refused}
 
@@ -56,27 +57,9 @@ unfoldable pub accelerationOf : Lanes → ℕ → Acceleration
 accelerationOf trip i =
     pick (eqb (faultOf trip i .number) accepted) (pick (hasD (trip .states) i) (numbered (dOf (trip .speeds) i)) None) (Refused (faultOf trip i))
 
--- the paper's number of refusal and place for each case of the answer, whether it has D, and D; zero where it has none
-unfoldable pub refusalOf : Acceleration → ℕ
-refusalOf (Rising d) = accepted
-refusalOf (Falling d) = accepted
-refusalOf None = accepted
-refusalOf (Refused fault) = fault .number
-
-unfoldable pub placeOf : Acceleration → ℕ
-placeOf (Rising d) = 0
-placeOf (Falling d) = 0
-placeOf None = 0
-placeOf (Refused fault) = fault .place
-
-unfoldable pub isNumber : Acceleration → Bool
-isNumber (Rising d) = true
-isNumber (Falling d) = true
-isNumber None = false
-isNumber (Refused fault) = false
-
-unfoldable pub valueOf : Acceleration → ℤ
-valueOf (Rising d) = pos d
-valueOf (Falling d) = negℤ (pos d)
-valueOf None = pos 0
-valueOf (Refused fault) = pos 0
+-- the number of refusal and the place of an answer
+unfoldable pub faultIn : Acceleration → Fault
+faultIn (Refused given) = given
+faultIn (Rising d) = fault accepted 0
+faultIn (Falling d) = fault accepted 0
+faultIn None = fault accepted 0

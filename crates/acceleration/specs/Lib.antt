@@ -2,3 +2,4 @@
 pub mod D
 pub mod Products
 pub mod Outcomes
+pub mod Inside

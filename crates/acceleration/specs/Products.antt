@@ -1,16 +1,13 @@
 -- The products of the seconds that count (Appendix 7a).
-use Prim.Native.Nat.{ℕ, _+_, _*_, _≤_}
-use mathlib.Core.Path.{_≡_}
+use Prim.Native.Nat.{ℕ, _*_}
 use mathlib.Core.Bool.{Bool, _&&_}
 use mathlib.Core.List.{List, [], _∷_, _++_}
 use lib.Dec.{eqb}
 use lib.IntN.{pos, natAbs}
 use lib.ListN.{length, getD}
 use lib.Signed.{ltZ}
-use Rattle.base.specs.Limits.{tripLimit}
-use Rattle.base.specs.Words.{pick, afterFirst, sum}
+use Rattle.base.specs.Words.{pick, afterFirst}
 use Rattle.second.specs.Bins.{binOf}
-use Rattle.acceleration.specs.declared.Products.{Products}
 use Rattle.acceleration.specs.D.{dOf, hasD}
 
 -- "Seconds with D > 72 (0.1 m/s²) count"
@@ -32,16 +29,3 @@ productsAfter bin states speeds =
 
 abbrev pub productsOf : ℕ → List ℕ → List ℕ → List ℕ
 productsOf bin states speeds = productsAfter bin states speeds (length states)
-
--- "M", and "T the sum of P"
-unfoldable pub figuresOf : List ℕ → Products
-figuresOf products = record { count = length products; total = sum products }
-
--- a product as one number: one more than it, and 0 where the second does not count in the bin
-unfoldable pub productCode : ℕ → List ℕ → List ℕ → ℕ → ℕ
-productCode bin states speeds i = pick (countsIn bin states speeds i) (productOf speeds i + 1) 0
-
--- what the products are asked of: lanes of one length, and no more than a trip's
-pub record SpeedLanes (states speeds : List ℕ) : Type 0 where
-  pub agree : length speeds ≡ length states
-  pub few : length states ≤ tripLimit

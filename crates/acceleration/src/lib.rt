@@ -6,7 +6,8 @@ ghost use lib.ListN.{length};
 ghost use Rattle.base.specs.Words.{withFront};
 ghost use Rattle.second.specs.Lanes.{lanesOf};
 ghost use Rattle.acceleration.specs.D.{speedBefore, speedAfter, hasBefore, hasAfter, hasD, numbered, dOf, faultOf, accelerationOf};
-ghost use Rattle.acceleration.specs.Products.{SpeedLanes, productCode, productsOf, figuresOf};
+ghost use Rattle.acceleration.specs.Inside.{SpeedLanes, productCode, figuresOf};
+ghost use Rattle.acceleration.specs.Products.{productsOf};
 use base::Fault;
 
 // The answer for one second.
@@ -35,7 +36,9 @@ pub fn d_of_second(
     nox: &[u32],
     i: usize,
 ) -> Acceleration
-    ensures { λ r. ⌜ r ≡ accelerationOf (lanesOf (now (states .entry)) (now (speeds .entry)) (now (altitudes .entry)) (now (co2 .entry)) (now (nox .entry))) i ⌝ }
+    ensures { λ r.
+        let trip = lanesOf (now (states .entry)) (now (speeds .entry)) (now (altitudes .entry)) (now (co2 .entry)) (now (nox .entry)) in
+        ⌜ r ≡ accelerationOf trip i ⌝ }
 {
     let fault = fault_of(states, speeds, altitudes, co2, nox, i);
     let number = fault.number;
@@ -57,7 +60,9 @@ fn fault_of(
     nox: &[u32],
     i: usize,
 ) -> Fault
-    ensures { λ r. ⌜ r ≡ faultOf (lanesOf (now (states .entry)) (now (speeds .entry)) (now (altitudes .entry)) (now (co2 .entry)) (now (nox .entry))) i ⌝ }
+    ensures { λ r.
+        let trip = lanesOf (now (states .entry)) (now (speeds .entry)) (now (altitudes .entry)) (now (co2 .entry)) (now (nox .entry)) in
+        ⌜ r ≡ faultOf trip i ⌝ }
 {
     if !second::lanes_agree(states, speeds, altitudes, co2, nox) {
         return base::fault_at(base::refusal::LANES_DIFFER, 0);

@@ -1,16 +1,17 @@
--- Laws of `altitudeCode`: 0 says out of range, and two altitudes in range differ and are ordered as their codes. Assumes nothing.
+-- Laws of `altitudeCode`: 0 says out of range, and two altitudes in range differ as their codes. Assumes nothing.
 use Prim.Native.Nat.{suc, _+_, _-_, _≤_}
-use mathlib.Core.Path.{_≡_, refl, sym, _∙_, ap, ap₂}
-use mathlib.Core.Bool.{Bool, true, false, not, _&&_, and-true}
+use mathlib.Core.Path.{_≡_, refl, sym, _∙_, ap₂}
+use mathlib.Core.Bool.{Bool, true, false, _&&_, and-true}
 use native.Mathlib.Omega.{arith}
-use borrow.Author.Tests.{ltb-true, leb-true, lt-ltb, ne-eqb}
-use lib.Dec.{leb, ltb, eqb, leb·suc-suc}
-use lib.IntN.{ℤ, pos, negsuc, negℤ, natAbs, subℕ, _-ℤ_}
-use lib.Signed.{leZ, ltZ}
+use borrow.Author.Tests.{ltb-true, leb-true, lt-ltb}
+use lib.Dec.{ltb, leb·suc-suc}
+use lib.IntN.{ℤ, pos, negsuc, negℤ, subℕ, _-ℤ_}
+use lib.Signed.{leZ}
 use Rattle.base.specs.Limits.{altitudeBelowZero, altitudeMost}
-use Rattle.base.specs.Second.{altitudeInRange, height, altitudeCode}
+use Rattle.base.specs.Inside.{height, altitudeCode}
+use Rattle.base.specs.Second.{altitudeInRange}
 use Rattle.base.specs.Words.{pick}
-use Rattle.base.proofs.Integers.{sub-up, pos-is, negsuc-is, sub-minus-same, sub-at-most, sub-below, size-of-sub}
+use Rattle.base.proofs.Integers.{sub-up, pos-is, negsuc-is, sub-minus-same}
 
 -- the lowest and the highest altitude in range
 abbrev pub lowest : ℤ
@@ -45,15 +46,7 @@ pub code-out-of-range : (z : ℤ) → altitudeInRange z ≡ false → altitudeCo
 unfolding altitudeCode
 code-out-of-range z outside = rw outside refl
 
--- the code is 0 exactly when the altitude is out of range, as the two tests of it
-pub code-zero : (z : ℤ) → eqb (altitudeCode z) 0 ≡ not (altitudeInRange z)
-unfolding altitudeCode
-code-zero z = go (altitudeInRange z)
-  where
-    go : (t : Bool) → eqb (pick t (height z + 1) 0) 0 ≡ not t
-    go true = ne-eqb (height z + 1) 0 (λ (e : height z + 1 ≡ 0). omega arith)
-    go false = refl
-
+-- the code is above 0 exactly when the altitude is in range, as the two tests of it
 pub code-above-zero : (z : ℤ) → ltb 0 (altitudeCode z) ≡ altitudeInRange z
 unfolding altitudeCode
 code-above-zero z = go (altitudeInRange z)
@@ -76,21 +69,7 @@ unfolding altitudeInRange height altitudeCode
 altitude-is (pos a) within = rw within (pos-is a (a + altitudeBelowZero + 1) (altitudeBelowZero + 1) (omega arith))
 altitude-is (negsuc a) within = rw within (negsuc-is a (altitudeBelowZero - suc a + 1) (altitudeBelowZero + 1) (omega (arith, ltb-true a altitudeBelowZero within)))
 
-module _ (z z′ : ℤ) (within : altitudeInRange z ≡ true) (within′ : altitudeInRange z′ ≡ true) where
-  by-codes {ℓ} : {A : Type ℓ} (f : ℤ → ℤ → A) → f z z′ ≡ f (subℕ (altitudeCode z) (altitudeBelowZero + 1)) (subℕ (altitudeCode z′) (altitudeBelowZero + 1))
-  by-codes f = ap₂ f (altitude-is z within) (altitude-is z′ within′)
-
-  -- two altitudes in range differ by what their codes differ
-  pub altitude-difference : z′ -ℤ z ≡ subℕ (altitudeCode z′) (altitudeCode z)
-  altitude-difference =
-      by-codes (λ y y′. y′ -ℤ y) ∙ sub-minus-same (altitudeCode z′) (altitudeCode z) (altitudeBelowZero + 1)
-
-  pub altitude-distance : natAbs (z′ -ℤ z) ≡ (altitudeCode z′ - altitudeCode z) + (altitudeCode z - altitudeCode z′)
-  altitude-distance = ap natAbs altitude-difference ∙ size-of-sub (altitudeCode z′) (altitudeCode z)
-
-  -- and are ordered as their codes
-  pub altitude-at-most : leZ z z′ ≡ leb (altitudeCode z) (altitudeCode z′)
-  altitude-at-most = by-codes leZ ∙ sub-at-most (altitudeCode z) (altitudeCode z′) (altitudeBelowZero + 1)
-
-  pub altitude-below : ltZ z z′ ≡ ltb (altitudeCode z) (altitudeCode z′)
-  altitude-below = by-codes ltZ ∙ sub-below (altitudeCode z) (altitudeCode z′) (altitudeBelowZero + 1)
+-- two altitudes in range differ by what their codes differ
+pub altitude-difference : (z z′ : ℤ) → altitudeInRange z ≡ true → altitudeInRange z′ ≡ true → z′ -ℤ z ≡ subℕ (altitudeCode z′) (altitudeCode z)
+altitude-difference z z′ within within′ =
+    ap₂ _-ℤ_ (altitude-is z′ within′) (altitude-is z within) ∙ sub-minus-same (altitudeCode z′) (altitudeCode z) (altitudeBelowZero + 1)

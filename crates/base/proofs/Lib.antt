@@ -3,6 +3,9 @@ pub mod Choice
 pub mod Tests
 pub mod Seconds
 pub mod Sums
+pub mod SumOver
+pub mod HowMany
+pub mod FirstWhere
 pub mod FirstBad
 pub mod Search
 pub mod Store

@@ -1,6 +1,6 @@
 -- The words that the definitions of every crate use.
 use Prim.Native.Nat.{ℕ, zero, suc, _+_}
-use mathlib.Core.Bool.{Bool, true, false}
+use mathlib.Core.Bool.{Bool, true, false, not}
 use mathlib.Core.List.{List, [], _∷_, _++_}
 use lib.ListN.{length, take, drop}
 
@@ -27,7 +27,19 @@ sumFirst i xs = sum (take i xs)
 abbrev pub withFront {ℓ} : {A : Type ℓ} → List A → List A → List A
 withFront values lane = values ++ drop (length values) lane
 
+-- the first index below n at which a test holds, and n where it holds at none
+unfoldable pub firstWhere : (ℕ → Bool) → ℕ → ℕ
+firstWhere test zero = 0
+firstWhere test (suc n) = pick (test 0) 0 (suc (firstWhere (λ i. test (suc i)) n))
+
 -- the first index below n that is not good, and n where each is
-unfoldable pub firstBad : (ℕ → Bool) → ℕ → ℕ
-firstBad good zero = 0
-firstBad good (suc n) = pick (good 0) (suc (firstBad (λ i. good (suc i)) n)) 0
+abbrev pub firstBad : (ℕ → Bool) → ℕ → ℕ
+firstBad good n = firstWhere (λ i. not (good i)) n
+
+-- the sum of a value over those of the first n indices that are in a set
+unfoldable pub sumOver : (ℕ → Bool) → (ℕ → ℕ) → ℕ → ℕ
+sumOver inSet value = afterFirst (λ i total. total + pick (inSet i) (value i) 0) 0
+
+-- how many of the first n indices are in a set
+abbrev pub howMany : (ℕ → Bool) → ℕ → ℕ
+howMany inSet = sumOver inSet (λ i. 1)

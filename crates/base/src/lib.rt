@@ -3,7 +3,6 @@
 // (specs/); the proofs of the tests below hold the two together.
 
 pub mod limits;
-pub mod meaning;
 pub mod refusal;
 pub mod road;
 pub mod state;
@@ -12,7 +11,8 @@ ghost use mathlib.Core.Path.{_≡_};
 ghost use Prim.Native.Nat.{_<_, min};
 ghost use lib.IntN.{pos};
 ghost use lib.ListN.{length, getD};
-ghost use Rattle.base.specs.Second.{tooMany, stateKnown, speedInRange, altitudeCode, co2InRange, noxInRange};
+ghost use Rattle.base.specs.Inside.{altitudeCode};
+ghost use Rattle.base.specs.Second.{tooMany, stateKnown, speedInRange, co2InRange, noxInRange};
 ghost use Rattle.base.specs.Refusal.{fault};
 ghost use Rattle.base.specs.Plan.{referenceInRange, curveInRange, toleranceInRange, planInRange};
 

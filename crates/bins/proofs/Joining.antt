@@ -4,15 +4,18 @@ use mathlib.Core.Path.{_≡_, refl}
 use mathlib.Core.List.{List}
 use lib.ListN.{length, getD}
 use Rattle.base.specs.Limits.{tripLimit}
-use Rattle.tally.specs.Tally.{Room, binTallies, binTalliesAfter, added}
+use Rattle.base.specs.Roads.{ofEach}
+use Rattle.tally.specs.Inside.{Room, binTallies, binTalliesAfter, added}
 use Rattle.tally.specs.Sets.{isPresent}
 use Rattle.tally.proofs.Tallies.{bins-add-up, tally-room}
-use Rattle.dynamics.specs.Dynamics.{binDynamics, dynamicsOf}
-use Rattle.bins.specs.Bins.{binOf, binsOf, joinedAll}
+use Rattle.acceleration.specs.Products.{productsOf}
+use Rattle.dynamics.specs.Dynamics.{dynamicsOf}
+use Rattle.bins.specs.Bins.{binOf, binsOf}
+use Rattle.bins.specs.Inside.{joinedAll}
 
 module _ (states speeds co2 nox : List ℕ) where
-  pub joins : joinedAll (binTallies states speeds co2 nox) (dynamicsOf states speeds) ≡ binsOf states speeds co2 nox .each
-  unfolding joinedAll binTalliesAfter dynamicsOf binDynamics binsOf binOf
+  pub joins : joinedAll (binTallies states speeds co2 nox) (ofEach (λ bin. dynamicsOf (productsOf bin states speeds))) ≡ binsOf states speeds co2 nox .each
+  unfolding joinedAll binTalliesAfter binsOf binOf
   joins = refl
 
   pub totals : added (binTallies states speeds co2 nox) ≡ binsOf states speeds co2 nox .total

@@ -4,7 +4,8 @@ use dynamics::Figures;
 use tally::Tally;
 ghost use mathlib.Core.Path.{_≡_};
 ghost use Rattle.dynamics.specs.Dynamics.{ranksOf};
-ghost use Rattle.bins.specs.Bins.{BinLanes, joined, joinedAll, binsOf};
+ghost use Rattle.bins.specs.Bins.{joined, binsOf};
+ghost use Rattle.bins.specs.Inside.{BinLanes, joinedAll};
 
 // A bin of the answer.
 #[repr(C)]
@@ -28,8 +29,11 @@ pub struct Bins {
 // of the bins, each ascending, and the rest of it is as it was.
 pub fn measure(states: &[u8], speeds: &[u16], co2: &[u32], nox: &[u32], ranks: &mut [u32]) -> Bins
     requires { ⌜ BinLanes (now states) (now speeds) (now co2) (now nox) (now ranks) ⌝ }
-    ensures { λ r. ⌜ r ≡ binsOf (now (states .entry)) (now (speeds .entry)) (now (co2 .entry)) (now (nox .entry)) ⌝ }
-    ensures { λ r. ⌜ now (ranks .exit) ≡ ranksOf (now (states .entry)) (now (speeds .entry)) (now (ranks .entry)) ⌝ }
+    ensures { λ r.
+        let states = now (states .entry) in
+        let speeds = now (speeds .entry) in
+        ⌜ (r ≡ binsOf states speeds (now (co2 .entry)) (now (nox .entry)))
+        × (now (ranks .exit) ≡ ranksOf states speeds (now (ranks .entry))) ⌝ }
 {
     let tallies = tally::tally_bins(states, speeds, co2, nox);
     let total = tally::total(tallies);

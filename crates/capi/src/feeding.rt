@@ -1,9 +1,9 @@
 // A stream that arrives in blocks.
 
 ghost use mathlib.Core.Path.{_≡_};
-ghost use Rattle.stream.specs.Reading.{roomOf};
-ghost use Rattle.reader.specs.Blocks.{started};
-ghost use Rattle.reader.specs.Made.{fedOf, laneFed, endOf};
+ghost use Rattle.second.specs.Lanes.{lanesOf, roomIn};
+ghost use Rattle.reader.specs.Reader.{started};
+ghost use Rattle.reader.specs.Blocks.{fedOf, lanesFed, endOf};
 use reader::Fed;
 use reader::Reader;
 use stream::ReadAnswer;
@@ -27,12 +27,11 @@ pub extern "C" fn pb_feed(
     co2: &mut [u32],
     nox: &mut [u32],
 ) -> Fed
-    ensures answer { λ r. ⌜ r ≡ fedOf (roomOf (now (states .entry)) (now (speeds .entry)) (now (altitudes .entry)) (now (co2 .entry)) (now (nox .entry))) reader (now (block .entry)) ⌝ }
-    ensures states_left { λ r. ⌜ now (states .exit) ≡ laneFed (λ s. s .state) (roomOf (now (states .entry)) (now (speeds .entry)) (now (altitudes .entry)) (now (co2 .entry)) (now (nox .entry))) reader (now (block .entry)) (now (states .entry)) ⌝ }
-    ensures speeds_left { λ r. ⌜ now (speeds .exit) ≡ laneFed (λ s. s .speed) (roomOf (now (states .entry)) (now (speeds .entry)) (now (altitudes .entry)) (now (co2 .entry)) (now (nox .entry))) reader (now (block .entry)) (now (speeds .entry)) ⌝ }
-    ensures altitudes_left { λ r. ⌜ now (altitudes .exit) ≡ laneFed (λ s. s .altitude) (roomOf (now (states .entry)) (now (speeds .entry)) (now (altitudes .entry)) (now (co2 .entry)) (now (nox .entry))) reader (now (block .entry)) (now (altitudes .entry)) ⌝ }
-    ensures co2_left { λ r. ⌜ now (co2 .exit) ≡ laneFed (λ s. s .co2) (roomOf (now (states .entry)) (now (speeds .entry)) (now (altitudes .entry)) (now (co2 .entry)) (now (nox .entry))) reader (now (block .entry)) (now (co2 .entry)) ⌝ }
-    ensures nox_left { λ r. ⌜ now (nox .exit) ≡ laneFed (λ s. s .nox) (roomOf (now (states .entry)) (now (speeds .entry)) (now (altitudes .entry)) (now (co2 .entry)) (now (nox .entry))) reader (now (block .entry)) (now (nox .entry)) ⌝ }
+    ensures { λ r.
+        let lanes = lanesOf (now (states .entry)) (now (speeds .entry)) (now (altitudes .entry)) (now (co2 .entry)) (now (nox .entry)) in
+        let left = lanesOf (now (states .exit)) (now (speeds .exit)) (now (altitudes .exit)) (now (co2 .exit)) (now (nox .exit)) in
+        ⌜ (r ≡ fedOf (roomIn lanes) reader (now (block .entry)))
+        × (left ≡ lanesFed reader (now (block .entry)) lanes) ⌝ }
 {
     blocks::feed(reader, block, states, speeds, altitudes, co2, nox)
 }

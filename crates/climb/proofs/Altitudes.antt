@@ -1,45 +1,34 @@
--- Laws of the recorded and corrected altitudes: their bounds, and one second more at the code's i + 1. Assumes nothing.
-use Prim.Native.Nat.{ℕ, zero, suc, _+_, _-_, _*_, _≤_, _<_}
-use mathlib.Core.Path.{_≡_, refl, _∙_, ap}
-use mathlib.Core.Bool.{true, false, _||_}
+-- Laws of recorded and corrected altitudes: one second more at the code's i + 1, and their range. Assumes nothing.
+use Prim.Native.Nat.{ℕ, zero, suc, _+_, _<_}
+use mathlib.Core.Path.{_≡_, refl, sym, _∙_}
+use mathlib.Core.Bool.{Bool, true, false, _||_, false≢true}
 use mathlib.Core.List.{List}
 use native.Mathlib.Numerals.{add-one}
 use native.Mathlib.Omega.{arith}
-use borrow.Author.Tests.{eq-eqb, ne-eqb}
-use lib.Dec.{ltb, eqb}
-use lib.IntN.{ℤ, pos}
+use borrow.Author.Tests.{ltb-true, ltb-false, lt-ltb}
+use lib.Dec.{ltb}
+use lib.IntN.{ℤ, pos, _-ℤ_}
 use lib.ListN.{length, getD, List·getD-eq-default}
-use Rattle.base.specs.Limits.{tripLimit}
-use Rattle.base.specs.Words.{pick}
-use Rattle.base.proofs.Altitude.{code-at-most}
+use Rattle.base.specs.Second.{altitudeInRange}
+use Rattle.base.specs.Words.{pick, howMany}
 use Rattle.base.proofs.Choice.{both-ways}
 use Rattle.base.proofs.Seconds.{after-none, after-more, after-keeps}
-use Rattle.base.proofs.Search.{stops-at, comes-to}
-use Rattle.second.specs.Lanes.{hasValues}
-use Rattle.climb.specs.Climb.{codeOf, codeMost, recordedAt, recordedBefore, jumps, corrected, correctedAfter, stepUp, climbAfter, highAfter, climbOf, climbMost}
-use Rattle.climb.specs.Ends.{firstRecorded, lastAfter}
+use Rattle.base.proofs.SumOver.{sum-over-none, sum-over-more}
+use Rattle.second.specs.Row.{hasValues}
+use Rattle.climb.specs.Corrected.{Altitude, none, cm, recordedAt, recordedBefore, jumps, corrected, correctedAfter, isHigh, highAfter}
+use Rattle.climb.specs.Inside.{AltitudeLanes}
 
 module _ (states : List ℕ) (altitudes : List ℤ) where
-  pub recorded-at-most : (i : ℕ) → recordedAt states altitudes i ≤ codeMost
+  -- a second with values has its altitude, a missing one none
+  pub recorded-some : (i : ℕ) → hasValues (getD states i 0) ≡ true → recordedAt states altitudes i ≡ cm (getD altitudes i (pos 0))
   unfolding recordedAt
-  recorded-at-most i = both-ways (λ a. a ≤ codeMost) (hasValues (getD states i 0)) (omega (arith, code-at-most (getD altitudes i (pos 0)))) (omega arith)
+  recorded-some i has = rw has refl
 
-  pub before-at-most : (i : ℕ) → recordedBefore states altitudes i ≤ codeMost
-  unfolding recordedBefore
-  before-at-most zero = omega arith
-  before-at-most (suc i) = recorded-at-most i
-
-  -- a missing second has no altitude
-  pub recorded-none : (i : ℕ) → hasValues (getD states i 0) ≡ false → recordedAt states altitudes i ≡ 0
+  pub recorded-none : (i : ℕ) → hasValues (getD states i 0) ≡ false → recordedAt states altitudes i ≡ none
   unfolding recordedAt
   recorded-none i lacks = rw lacks refl
 
-  -- past the end nothing is recorded
-  pub recorded-past : (i : ℕ) → length states ≤ i → recordedAt states altitudes i ≡ 0
-  unfolding recordedAt hasValues
-  recorded-past i h = rw (List·getD-eq-default states 0 h) refl
-
-  pub before-none : recordedBefore states altitudes 0 ≡ 0
+  pub before-none : recordedBefore states altitudes 0 ≡ none
   unfolding recordedBefore
   before-none = refl
 
@@ -47,41 +36,8 @@ module _ (states : List ℕ) (altitudes : List ℤ) where
   unfolding recordedBefore
   before-more i = rw add-one
 
-  -- the first altitude: found behind seconds that have none, or there is none
-  pub first-found : (i : ℕ) → i < length states → ((k : ℕ) → k < i → eqb (recordedAt states altitudes k) 0 ≡ true) → 0 < recordedAt states altitudes i → firstRecorded states altitudes ≡ recordedAt states altitudes i
-  unfolding firstRecorded
-  first-found i h before found =
-      let bad : eqb (recordedAt states altitudes i) 0 ≡ false = ne-eqb _ _ (λ (e : recordedAt states altitudes i ≡ 0). omega arith) in
-      ap (recordedAt states altitudes) (stops-at (λ k. eqb (recordedAt states altitudes k) 0) (length states) i h before bad)
-
-  pub first-none : (i : ℕ) → i ≤ length states → length states ≤ i → ((k : ℕ) → k < i → eqb (recordedAt states altitudes k) 0 ≡ true) → firstRecorded states altitudes ≡ 0
-  unfolding firstRecorded
-  first-none i h h′ before =
-      ap (recordedAt states altitudes) (comes-to (λ k. eqb (recordedAt states altitudes k) 0) (length states) i h h′ before) ∙ recorded-past i h′
-
-  -- the last altitude of the first i seconds, from i - 1
-  pub last-none : lastAfter states altitudes 0 ≡ 0
-  unfolding lastAfter
-  last-none = after-none _ _
-
-  last-more : (i : ℕ) → 0 < i → lastAfter states altitudes i ≡ pick (eqb (recordedAt states altitudes (i - 1)) 0) (lastAfter states altitudes (i - 1)) (recordedAt states altitudes (i - 1))
-  unfolding lastAfter
-  last-more i h =
-      let same : i ≡ i - 1 + 1 = omega arith in
-      ap (lastAfter states altitudes) same ∙ after-more _ _ (i - 1)
-
-  pub last-found : (i : ℕ) → 0 < i → 0 < recordedAt states altitudes (i - 1) → lastAfter states altitudes i ≡ recordedAt states altitudes (i - 1)
-  last-found i h found =
-      let has : eqb (recordedAt states altitudes (i - 1)) 0 ≡ false = ne-eqb _ _ (λ (e : recordedAt states altitudes (i - 1) ≡ 0). omega arith) in
-      last-more i h ∙ rw has refl
-
-  pub last-passed : (i : ℕ) → 0 < i → recordedAt states altitudes (i - 1) ≤ 0 → lastAfter states altitudes i ≡ lastAfter states altitudes (i - 1)
-  last-passed i h nothing =
-      let lacks : recordedAt states altitudes (i - 1) ≡ 0 = omega arith in
-      last-more i h ∙ rw (eq-eqb _ _ lacks) refl
-
 module _ (states speeds : List ℕ) (altitudes : List ℤ) where
-  pub corrected-none : correctedAfter states speeds altitudes 0 ≡ 0
+  pub corrected-none : correctedAfter states speeds altitudes 0 ≡ none
   unfolding correctedAfter
   corrected-none = after-none _ _
 
@@ -89,41 +45,48 @@ module _ (states speeds : List ℕ) (altitudes : List ℤ) where
   unfolding correctedAfter
   corrected-more i = after-more _ _ i
 
-  pub climb-none : climbAfter states speeds altitudes 0 ≡ 0
-  unfolding climbAfter
-  climb-none = after-none _ _
+  -- whether one of the first i is too high
+  pub high-none : ltb 0 (howMany (highAfter states speeds altitudes) 0) ≡ false
+  high-none = rw (sum-over-none (highAfter states speeds altitudes) (λ i. 1)) refl
 
-  pub climb-more : (i : ℕ) → climbAfter states speeds altitudes (i + 1) ≡ climbAfter states speeds altitudes i + stepUp (correctedAfter states speeds altitudes i) (correctedAfter states speeds altitudes (i + 1))
-  unfolding climbAfter
-  climb-more i = rw (after-more _ _ i, add-one) refl
+  or-one : (h : ℕ) (t : Bool) → ltb 0 (h + pick t 1 0) ≡ (ltb 0 h || t)
+  or-one zero true = refl
+  or-one zero false = refl
+  or-one (suc h) t = lt-ltb 0 (suc h + pick t 1 0) (omega arith) ∙ sym (rw (lt-ltb 0 (suc h) (omega arith)) refl)
 
-  pub high-none : highAfter states speeds altitudes 0 ≡ false
-  unfolding highAfter
-  high-none = after-none _ _
+  pub high-more : (i : ℕ) → ltb 0 (howMany (highAfter states speeds altitudes) (i + 1)) ≡ (ltb 0 (howMany (highAfter states speeds altitudes) i) || isHigh (correctedAfter states speeds altitudes (i + 1)))
+  high-more i =
+      rw (sum-over-more (highAfter states speeds altitudes) (λ i. 1) i, add-one) (or-one (howMany (highAfter states speeds altitudes) i) (highAfter states speeds altitudes i))
 
-  pub high-more : (i : ℕ) → highAfter states speeds altitudes (i + 1) ≡ (highAfter states speeds altitudes i || ltb (codeOf 130_000) (correctedAfter states speeds altitudes (i + 1)))
-  unfolding highAfter
-  high-more i = rw (after-more _ _ i, add-one) refl
+-- ---- the range
+-- an altitude is in range, where there is one
+abbrev pub Within : Altitude → Type 0
+Within none = Unit {0}
+Within (cm z) = altitudeInRange z ≡ true
 
-  -- no corrected altitude is above the highest, so no step is, and a trip climbs at most one such step a second
-  pub corrected-at-most : (i : ℕ) → correctedAfter states speeds altitudes i ≤ codeMost
-  unfolding correctedAfter corrected
-  corrected-at-most =
-      after-keeps _ _ (λ i c. c ≤ codeMost) (omega arith)
-      (λ i previous (h : previous ≤ codeMost).
-      both-ways (λ a. a ≤ codeMost) (eqb (recordedAt states altitudes i) 0) h
-      (both-ways (λ a. a ≤ codeMost) (eqb (recordedBefore states altitudes i) 0) (recorded-at-most states altitudes i)
-      (both-ways (λ a. a ≤ codeMost) (jumps (recordedBefore states altitudes i) (recordedAt states altitudes i) (getD speeds i 0)) h (recorded-at-most states altitudes i))))
+module _ (states speeds : List ℕ) (altitudes : List ℤ) (lanes : AltitudeLanes states altitudes) where
+  has-second : (i : ℕ) → hasValues (getD states i 0) ≡ true → i < length states
+  unfolding hasValues
+  has-second i has = go (ltb i (length states)) refl
+    where
+      go : (t : Bool) → ltb i (length states) ≡ t → i < length states
+      go true q = ltb-true i (length states) q
+      go false q = absurd (false≢true (rw (List·getD-eq-default states 0 (ltb-false i (length states) q)) at has))
 
-  step-at-most : (i j : ℕ) → stepUp (correctedAfter states speeds altitudes i) (correctedAfter states speeds altitudes j) ≤ codeMost
-  unfolding stepUp
-  step-at-most i j =
-      both-ways (λ a. a ≤ codeMost) (eqb (correctedAfter states speeds altitudes i) 0) (omega arith) (omega (arith, corrected-at-most j))
+  recorded-within : (i : ℕ) → Within (recordedAt states altitudes i)
+  recorded-within i = go (hasValues (getD states i 0)) refl
+    where
+      go : (t : Bool) → hasValues (getD states i 0) ≡ t → Within (recordedAt states altitudes i)
+      go true q = rw (recorded-some states altitudes i q) (lanes .in-range i (has-second i q) q)
+      go false q = rw (recorded-none states altitudes i q) tt
 
-  pub climb-at-most : (n : ℕ) → climbAfter states speeds altitudes n ≤ n * codeMost
-  unfolding climbAfter
-  climb-at-most = after-keeps _ _ (λ i climb. climb ≤ i * codeMost) (omega arith) (λ i climb (h : climb ≤ i * codeMost). omega (arith, step-at-most i (suc i)))
+  corrected-keeps : (previous before recorded : Altitude) (s : ℕ) → Within previous → Within recorded → Within (corrected previous before recorded s)
+  unfolding corrected
+  corrected-keeps previous before none s p r = p
+  corrected-keeps previous none (cm z) s p r = r
+  corrected-keeps previous (cm y) (cm z) s p r = both-ways Within (jumps (z -ℤ y) s) p r
 
-  pub climb-of-at-most : length states ≤ tripLimit → climbOf states speeds altitudes .climb ≤ climbMost
-  unfolding climbOf
-  climb-of-at-most few = omega (arith, climb-at-most (length states))
+  pub corrected-within : (i : ℕ) → Within (correctedAfter states speeds altitudes i)
+  unfolding correctedAfter
+  corrected-within =
+      after-keeps _ _ (λ i altitude. Within altitude) tt (λ i previous h. corrected-keeps previous (recordedBefore states altitudes i) (recordedAt states altitudes i) (getD speeds i 0) h (recorded-within i))

@@ -1,4 +1,5 @@
--- The laws of altitudes and of the climb.
+-- The laws of altitudes, of the climb, and of the first and last altitude.
+pub mod Codes
 pub mod Altitudes
-pub mod High
-pub mod EndsDiffer
+pub mod Steps
+pub mod Ends

@@ -1,24 +1,27 @@
--- The first and the last recorded altitude.
+-- The first and the last recorded altitude of a trip.
 use Prim.Native.Nat.{ℕ}
 use mathlib.Core.Bool.{Bool}
 use mathlib.Core.List.{List}
-use lib.Dec.{ltb, eqb}
-use lib.IntN.{ℤ}
-use lib.ListN.{length}
-use Rattle.base.specs.Words.{pick, afterFirst, firstBad}
-use Rattle.climb.specs.Climb.{recordedAt, distance}
+use lib.Dec.{ltb}
+use lib.IntN.{ℤ, pos, natAbs, _-ℤ_}
+use lib.ListN.{length, getD}
+use Rattle.base.specs.Words.{pick, afterFirst, firstWhere}
+use Rattle.second.specs.Row.{hasValues}
 
--- the altitude of the first second that has one
-unfoldable pub firstRecorded : List ℕ → List ℤ → ℕ
-firstRecorded states altitudes = recordedAt states altitudes (firstBad (λ i. eqb (recordedAt states altitudes i) 0) (length states))
+-- the first and the last second that has an altitude, and n where none has
+unfoldable pub firstWithAltitude : List ℕ → ℕ
+firstWithAltitude states = firstWhere (λ i. hasValues (getD states i 0)) (length states)
 
--- the altitude of the last of the first i seconds that has one
-unfoldable pub lastAfter : List ℕ → List ℤ → ℕ → ℕ
-lastAfter states altitudes = afterFirst (λ i last. pick (eqb (recordedAt states altitudes i) 0) last (recordedAt states altitudes i)) 0
+unfoldable pub lastWithAltitude : List ℕ → ℕ
+lastWithAltitude states = afterFirst (λ i last. pick (hasValues (getD states i 0)) i last) (length states) (length states)
 
-abbrev pub lastRecorded : List ℕ → List ℤ → ℕ
-lastRecorded states altitudes = lastAfter states altitudes (length states)
+-- by how many cm "first and last recorded altitude differ"
+unfoldable pub endsDifference : List ℕ → List ℤ → ℕ
+endsDifference states altitudes = natAbs (getD altitudes (lastWithAltitude states) (pos 0) -ℤ getD altitudes (firstWithAltitude states) (pos 0))
 
--- "first and last recorded altitude differ by over 10,000"
-unfoldable pub endsApart : List ℕ → List ℤ → Bool
-endsApart states altitudes = ltb 10_000 (distance (firstRecorded states altitudes) (lastRecorded states altitudes))
+-- "by over 10,000"
+abbrev pub endsMost : ℕ
+endsMost = 10_000
+
+abbrev pub endsApart : List ℕ → List ℤ → Bool
+endsApart states altitudes = ltb endsMost (endsDifference states altitudes)

@@ -1,4 +1,5 @@
--- The definitions of corrected altitude, climb, and the first and last altitude, and facts about them.
+-- The definitions of corrected altitude, climb, and the first and last altitude.
+pub mod Corrected
 pub mod Climb
 pub mod Ends
-pub mod Facts
+pub mod Inside

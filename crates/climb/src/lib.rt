@@ -1,12 +1,15 @@
 // Corrected altitudes and the climb of a trip (Appendix 7b, first edition), and how far apart its
-// first and last altitude are. An altitude is its code, as base::altitude_code gives it: cm from 1
-// at the lowest altitude up; 0 says that there is none.
+// first and last altitude are. Inside, an altitude is its code, as base::altitude_code gives it: cm
+// from 1 at the lowest altitude up; 0 says that there is none.
 
 ghost use mathlib.Core.Path.{_≡_};
 ghost use Prim.Native.Nat.{_<_, _≤_};
+ghost use lib.IntN.{natAbs, subℕ};
 ghost use lib.ListN.{length};
-ghost use Rattle.climb.specs.Climb.{ClimbLanes, codeMost, recordedAt, distance, jumps, corrected, stepUp, climbOf, climbMost, steep};
-ghost use Rattle.climb.specs.Ends.{firstRecorded, lastRecorded, endsApart};
+ghost use Rattle.climb.specs.Corrected.{recordedAt, jumps, corrected};
+ghost use Rattle.climb.specs.Climb.{stepUp, climbOf, steep};
+ghost use Rattle.climb.specs.Ends.{firstWithAltitude, lastWithAltitude, endsApart};
+ghost use Rattle.climb.specs.Inside.{codeMost, altitudeOf, climbMost, AltitudeLanes, ClimbLanes};
 
 // What the altitudes of a trip come to.
 pub struct Climbed {
@@ -15,7 +18,7 @@ pub struct Climbed {
 }
 
 // The codes of the altitudes 0 and 130,000 cm: the highest that reason 9 lets pass.
-const SEA_LEVEL: u32 = 50_001;
+const SEA_LEVEL: u32 = (0 - base::limits::ALTITUDE_LOWEST) as u32 + 1;
 
 const HIGHEST: u32 = SEA_LEVEL + 130_000;
 
@@ -54,8 +57,9 @@ pub fn too_steep(climb: u64, s: u32) -> bool
 
 // The recorded altitude of second i; 0 where the second is missing.
 fn recorded_at(states: &[u8], altitudes: &[i32], i: usize) -> u32
-    requires { ⌜ (i < length (now states)) × (i < length (now altitudes)) ⌝ }
-    ensures { λ r. ⌜ r ≡ recordedAt (now (states .entry)) (now (altitudes .entry)) i ⌝ }
+    requires { ⌜ AltitudeLanes (now states) (now altitudes) ⌝ }
+    requires { ⌜ i < length (now states) ⌝ }
+    ensures { λ r. ⌜ (altitudeOf r ≡ recordedAt (now (states .entry)) (now (altitudes .entry)) i) × (r ≤ codeMost) ⌝ }
 {
     let recorded = base::altitude_code(altitudes, i);
     if second::has_values(states[i]) {
@@ -68,7 +72,7 @@ fn recorded_at(states: &[u8], altitudes: &[i32], i: usize) -> u32
 // recorded, and from the second's own altitude and speed.
 fn corrected_from(last: u32, before: u32, recorded: u32, speed: u16) -> u32
     requires { ⌜ (before ≤ codeMost) × (recorded ≤ codeMost) ⌝ }
-    ensures { λ r. ⌜ r ≡ corrected last before recorded speed ⌝ }
+    ensures { λ r. ⌜ altitudeOf r ≡ corrected (altitudeOf last) (altitudeOf before) (altitudeOf recorded) speed ⌝ }
 {
     if recorded == 0 {
         return last;
@@ -85,7 +89,7 @@ fn corrected_from(last: u32, before: u32, recorded: u32, speed: u16) -> u32
 // Whether the recorded altitude changes by more than the speed allows.
 fn jumps_to(before: u32, recorded: u32, speed: u16) -> bool
     requires { ⌜ (before ≤ codeMost) × (recorded ≤ codeMost) ⌝ }
-    ensures { λ r. ⌜ r ≡ jumps before recorded speed ⌝ }
+    ensures { λ r. ⌜ r ≡ jumps (subℕ recorded before) speed ⌝ }
 {
     let d = apart(before, recorded) as u64;
     let s = speed as u64;
@@ -94,7 +98,7 @@ fn jumps_to(before: u32, recorded: u32, speed: u16) -> bool
 
 // How far apart two numbers are.
 fn apart(a: u32, b: u32) -> u32
-    ensures { λ r. ⌜ r ≡ distance a b ⌝ }
+    ensures { λ r. ⌜ r ≡ natAbs (subℕ b a) ⌝ }
 {
     if a < b {
         return b - a;
@@ -104,7 +108,7 @@ fn apart(a: u32, b: u32) -> u32
 
 // The step up between two successive corrected altitudes, and 0 where it is down or the first.
 fn step_up(from: u32, to: u32) -> u32
-    ensures { λ r. ⌜ r ≡ stepUp from to ⌝ }
+    ensures { λ r. ⌜ r ≡ stepUp (altitudeOf from) (altitudeOf to) ⌝ }
 {
     if from == 0 {
         return 0;
@@ -117,42 +121,44 @@ fn step_up(from: u32, to: u32) -> u32
 
 // Whether the first and the last recorded altitude differ by over 10,000 cm.
 pub fn ends_apart(states: &[u8], altitudes: &[i32]) -> bool
-    requires { ⌜ length (now altitudes) ≡ length (now states) ⌝ }
+    requires { ⌜ AltitudeLanes (now states) (now altitudes) ⌝ }
     ensures { λ r. ⌜ r ≡ endsApart (now (states .entry)) (now (altitudes .entry)) ⌝ }
 {
-    let first = first_recorded(states, altitudes);
-    let last = last_recorded(states, altitudes);
-    APART < apart(first, last)
+    let first = first_with_altitude(states);
+    if first == states.len() {
+        return false;
+    }
+    let last = last_with_altitude(states);
+    let from = base::altitude_code(altitudes, first);
+    let to = base::altitude_code(altitudes, last);
+    APART < apart(from, to)
 }
 
-// The first recorded altitude.
-fn first_recorded(states: &[u8], altitudes: &[i32]) -> u32
-    requires { ⌜ length (now altitudes) ≡ length (now states) ⌝ }
-    ensures { λ r. ⌜ r ≡ firstRecorded (now (states .entry)) (now (altitudes .entry)) ⌝ }
+// The first second that has an altitude, and the number of seconds where none has.
+fn first_with_altitude(states: &[u8]) -> usize
+    ensures { λ r. ⌜ r ≡ firstWithAltitude (now (states .entry)) ⌝ }
 {
     let mut i = 0;
     while i < states.len() {
-        let recorded = recorded_at(states, altitudes, i);
-        if 0 < recorded {
-            return recorded;
+        if second::has_values(states[i]) {
+            return i;
         }
         i += 1;
     }
-    0
+    i
 }
 
-// The last recorded altitude, looked for from the end.
-fn last_recorded(states: &[u8], altitudes: &[i32]) -> u32
-    requires { ⌜ length (now altitudes) ≡ length (now states) ⌝ }
-    ensures { λ r. ⌜ r ≡ lastRecorded (now (states .entry)) (now (altitudes .entry)) ⌝ }
+// The last second that has an altitude, looked for from the end; the number of seconds where none
+// has.
+fn last_with_altitude(states: &[u8]) -> usize
+    ensures { λ r. ⌜ r ≡ lastWithAltitude (now (states .entry)) ⌝ }
 {
     let mut i = states.len();
     while 0 < i {
         i -= 1;
-        let recorded = recorded_at(states, altitudes, i);
-        if 0 < recorded {
-            return recorded;
+        if second::has_values(states[i]) {
+            return i;
         }
     }
-    0
+    states.len()
 }

@@ -1,28 +1,31 @@
--- One item crosses as one struct: the paper's number, length and place of what stands at the front of the bytes, and what the item holds.
+-- One item crosses as one struct: the paper's number, length and place of what stands at the front of the bytes, its kind byte, and what the item holds.
 use Prim.Native.Nat.{ℕ}
+use mathlib.Core.List.{List}
+use lib.Dec.{eqb}
 use lib.IntN.{pos}
-use Rattle.item.specs.declared.Values.{Values}
+use lib.ListN.{getD}
+use Rattle.base.specs.Refusal.{accepted}
+use Rattle.base.specs.Words.{pick}
+use Rattle.second.specs.declared.Row.{Row}
 use Rattle.item.specs.declared.Item.{Item}
 use Rattle.item.specs.declared.Front.{Front}
-use Rattle.item.specs.Item.{refusalOf, placeOf, lengthOf}
+use Rattle.item.specs.Item.{itemOf, refusalOf, placeOf, lengthOf}
 use Rattle.stream.specs.Items.{noPlan}
 use Rattle.crossing.specs.declared.items.Contents.{Contents}
 use Rattle.crossing.specs.declared.items.ItemAnswer.{ItemAnswer}
 
--- all zeros, where there are no values
-abbrev pub noValues : Values
-noValues = record { speed = 0; altitude = pos 0; co2 = 0; nox = 0 }
+-- all zeros, where there is no second
+abbrev pub noRow : Row
+noRow = record { state = 0; speed = 0; altitude = pos 0; co2 = 0; nox = 0 }
 
--- what an item holds: its kind byte, and the values or the plan of its kind
+-- what an item holds: a plan or a second, and zeros for the other
 unfoldable pub contentsOf : Item → Contents
-contentsOf (Item.Plan plan) = record { kind = 0x10; values = noValues; plan = plan }
-contentsOf (Item.Measured values) = record { kind = 0x01; values = values; plan = noPlan }
-contentsOf Item.Missing = record { kind = 0x02; values = noValues; plan = noPlan }
-contentsOf (Item.Check values) = record { kind = 0x03; values = values; plan = noPlan }
+contentsOf (Item.Plan plan) = record { row = noRow; plan = plan }
+contentsOf (Item.Second row) = record { row = row; plan = noPlan }
 
 -- zeros, where the front is refused
 abbrev pub noContents : Contents
-noContents = record { kind = 0; values = noValues; plan = noPlan }
+noContents = record { row = noRow; plan = noPlan }
 
 unfoldable pub contentsAt : Front → Contents
 contentsAt (Front.Whole item size) = contentsOf item
@@ -32,10 +35,14 @@ contentsAt Front.PlanOutOfRange = noContents
 contentsAt Front.OutOfRange = noContents
 
 -- the answer's struct
-abbrev pub itemAnswer : ℕ → Contents → ℕ → ℕ → ItemAnswer
-itemAnswer refusal contents length place =
-    let values = contents .values in
-    record { refusal = refusal; kind = contents .kind; speed = values .speed; altitude = values .altitude; co2 = values .co2; nox = values .nox; plan = contents .plan; length = length; place = place }
+abbrev pub itemAnswer : ℕ → ℕ → Contents → ℕ → ℕ → ItemAnswer
+itemAnswer refusal kind contents length place =
+    let row = contents .row in
+    record { refusal = refusal; kind = kind; speed = row .speed; altitude = row .altitude; co2 = row .co2; nox = row .nox; plan = contents .plan; length = length; place = place }
 
-unfoldable pub frontAcross : Front → ItemAnswer
-frontAcross front = itemAnswer (refusalOf front) (contentsAt front) (lengthOf front) (placeOf front)
+-- the kind of an item that is accepted is its first byte
+unfoldable pub frontAcross : ℕ → Front → ItemAnswer
+frontAcross byte front = itemAnswer (refusalOf front) (pick (eqb (refusalOf front) accepted) byte 0) (contentsAt front) (lengthOf front) (placeOf front)
+
+abbrev pub itemAcross : List ℕ → ItemAnswer
+itemAcross bytes = frontAcross (getD bytes 0 0) (itemOf bytes)

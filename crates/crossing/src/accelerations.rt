@@ -28,7 +28,9 @@ pub fn acceleration(
     nox: &[u32],
     index: usize,
 ) -> AccelerationAnswer
-    ensures { λ r. ⌜ r ≡ accelerationAcross (accelerationOf (lanesOf (now (states .entry)) (now (speeds .entry)) (now (altitudes .entry)) (now (co2 .entry)) (now (nox .entry))) index) ⌝ }
+    ensures { λ r.
+        let trip = lanesOf (now (states .entry)) (now (speeds .entry)) (now (altitudes .entry)) (now (co2 .entry)) (now (nox .entry)) in
+        ⌜ r ≡ accelerationAcross (accelerationOf trip index) ⌝ }
 {
     let found = acceleration::d_of_second(states, speeds, altitudes, co2, nox, index);
     match found {

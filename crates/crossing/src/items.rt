@@ -1,12 +1,12 @@
 // One item of the trip stream.
 
 ghost use mathlib.Core.Path.{_≡_};
-ghost use Rattle.item.specs.Item.{itemOf};
-ghost use Rattle.crossing.specs.Items.{contentsOf, itemAnswer, frontAcross};
+ghost use Rattle.crossing.specs.Items.{contentsOf, itemAnswer, itemAcross};
 use base::Plan;
+use base::refusal;
 use item::Front;
 use item::Item;
-use item::Values;
+use second::Row;
 
 // One item. Only the members of its kind are set.
 #[repr(C)]
@@ -24,26 +24,26 @@ pub struct ItemAnswer {
 
 // One item from the front of some bytes.
 pub fn item(bytes: &[u8]) -> ItemAnswer
-    ensures { λ r. ⌜ r ≡ frontAcross (itemOf (now (bytes .entry))) ⌝ }
+    ensures { λ r. ⌜ r ≡ itemAcross (now (bytes .entry)) ⌝ }
 {
     let front = item::read_item(bytes);
     match front {
-        Front::Whole { item, size } => answer(base::refusal::ACCEPTED, contents_of(item), size),
-        Front::UnknownKind => answer(base::refusal::UNKNOWN_KIND, NO_CONTENTS, 0),
-        Front::Cut => answer(base::refusal::CUT_ITEM, NO_CONTENTS, 0),
-        Front::PlanOutOfRange => answer(base::refusal::PLAN_OUT_OF_RANGE, NO_CONTENTS, 0),
-        Front::OutOfRange => answer(base::refusal::OUT_OF_RANGE, NO_CONTENTS, 0),
+        Front::Whole { item, size } => answer(refusal::ACCEPTED, bytes[0], contents_of(item), size),
+        Front::UnknownKind => answer(refusal::UNKNOWN_KIND, 0, NO_CONTENTS, 0),
+        Front::Cut => answer(refusal::CUT_ITEM, 0, NO_CONTENTS, 0),
+        Front::PlanOutOfRange => answer(refusal::PLAN_OUT_OF_RANGE, 0, NO_CONTENTS, 0),
+        Front::OutOfRange => answer(refusal::OUT_OF_RANGE, 0, NO_CONTENTS, 0),
     }
 }
 
-// What an item holds: its kind byte, and the values or the plan of its kind.
+// What an item holds: a plan or a second, and zeros for the other.
 struct Contents {
-    pub kind: u8,
-    pub values: Values,
+    pub row: Row,
     pub plan: Plan,
 }
 
-const NO_VALUES: Values = Values {
+const NO_ROW: Row = Row {
+    state: 0,
     speed: 0,
     altitude: 0,
     co2: 0,
@@ -62,53 +62,40 @@ const NO_PLAN: Plan = Plan {
 };
 
 const NO_CONTENTS: Contents = Contents {
-    kind: 0,
-    values: NO_VALUES,
+    row: NO_ROW,
     plan: NO_PLAN,
 };
 
-// The contents of an item, a row for each kind.
+// The contents of an item.
 fn contents_of(item: Item) -> Contents
     ensures { λ r. ⌜ r ≡ contentsOf item ⌝ }
 {
     match item {
         Item::Plan(plan) => Contents {
-            kind: item::kind::PLAN,
-            values: NO_VALUES,
+            row: NO_ROW,
             plan: plan,
         },
-        Item::Measured(values) => Contents {
-            kind: item::kind::MEASURED,
-            values: values,
-            plan: NO_PLAN,
-        },
-        Item::Missing => Contents {
-            kind: item::kind::MISSING,
-            values: NO_VALUES,
-            plan: NO_PLAN,
-        },
-        Item::Check(values) => Contents {
-            kind: item::kind::CHECK,
-            values: values,
+        Item::Second(row) => Contents {
+            row: row,
             plan: NO_PLAN,
         },
     }
 }
 
 // The answer as it crosses.
-fn answer(refusal: u8, contents: Contents, length: usize) -> ItemAnswer
-    ensures { λ r. ⌜ r ≡ itemAnswer refusal contents length 0 ⌝ }
+fn answer(refusal: u8, kind: u8, contents: Contents, length: usize) -> ItemAnswer
+    ensures { λ r. ⌜ r ≡ itemAnswer refusal kind contents length 0 ⌝ }
 {
-    let values = contents.values;
-    let altitude = values.altitude;
+    let row = contents.row;
+    let altitude = row.altitude;
     let plan = contents.plan;
     ItemAnswer {
         refusal: refusal,
-        kind: contents.kind,
-        speed: values.speed,
+        kind: kind,
+        speed: row.speed,
         altitude: altitude,
-        co2: values.co2,
-        nox: values.nox,
+        co2: row.co2,
+        nox: row.nox,
         plan: plan,
         length: length,
         place: 0,

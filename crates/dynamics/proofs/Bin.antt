@@ -8,11 +8,12 @@ use Rattle.base.specs.Limits.{tripLimit}
 use Rattle.base.specs.Words.{sum, withFront}
 use Rattle.order.specs.Sort.{sort}
 use Rattle.acceleration.specs.declared.Products.{Products}
-use Rattle.acceleration.specs.Products.{productsOf, figuresOf}
+use Rattle.acceleration.specs.Inside.{figuresOf}
+use Rattle.acceleration.specs.Products.{productsOf}
 use Rattle.acceleration.proofs.Writing.{products-at-most}
 use Rattle.percentile.specs.Percentile.{qOrZero}
 use Rattle.percentile.proofs.Front.{filled-length, filled-front, filled-rest, ranked-front}
-use Rattle.dynamics.specs.Dynamics.{binDynamics}
+use Rattle.dynamics.specs.Dynamics.{dynamicsOf}
 
 module _ (bin : ℕ) (states speeds lane : List ℕ) (room : length (productsOf bin states speeds) ≤ length lane) {products : Products} {written : List ℕ} (is : products ≡ figuresOf (productsOf bin states speeds)) (w : written ≡ withFront (productsOf bin states speeds) lane) where
   pub count-is : products .count ≡ length (productsOf bin states speeds)
@@ -35,8 +36,8 @@ module _ (bin : ℕ) (states speeds lane : List ℕ) (room : length (productsOf 
   rest : drop (products .count) written ≡ drop (length (productsOf bin states speeds)) lane
   rest = ap (λ (n : ℕ). drop n written) count-is ∙ filled-rest (productsOf bin states speeds) lane room w
 
-  pub figures-are : {q : ℕ} → q ≡ qOrZero (take (products .count) written) → record { m = products .count; t = products .total; q = q } ≡ binDynamics bin states speeds
-  unfolding binDynamics
+  pub figures-are : {q : ℕ} → q ≡ qOrZero (take (products .count) written) → record { m = products .count; t = products .total; q = q } ≡ dynamicsOf (productsOf bin states speeds)
+  unfolding dynamicsOf
   figures-are e = rw (count-is, total-is, e, front) refl
 
   pub lane-is : {ranked : List ℕ} → ranked ≡ sort (take (products .count) written) ++ drop (products .count) written → ranked ≡ withFront (sort (productsOf bin states speeds)) lane

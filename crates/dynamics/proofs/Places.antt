@@ -6,7 +6,7 @@ use native.Mathlib.Omega.{arith}
 use lib.ListN.{length, take, drop, length-append, length-drop, drop-of-length-le}
 use lib.Seq.{take-at, drop-drop, drop-append-add, take-all}
 use Rattle.base.specs.Words.{withFront}
-use Rattle.dynamics.specs.Dynamics.{placed}
+use Rattle.dynamics.specs.Inside.{placed}
 
 -- behind what was put in before
 pub placed-next : (front values lane : List ℕ) (a : ℕ) → length front ≡ a → placed a values (front ++ drop a lane) ≡ (front ++ values) ++ drop (a + length values) lane

@@ -1,2 +1,3 @@
 -- The definitions of the dynamics of a trip.
 pub mod Dynamics
+pub mod Inside

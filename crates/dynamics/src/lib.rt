@@ -4,10 +4,13 @@
 ghost use mathlib.Core.Path.{_≡_};
 ghost use Prim.Native.Nat.{_+_, _≤_};
 ghost use lib.ListN.{length};
+ghost use Rattle.base.specs.Roads.{ofEach};
 ghost use Rattle.base.specs.Words.{withFront};
 ghost use Rattle.order.specs.Sort.{sort};
-ghost use Rattle.acceleration.specs.Products.{SpeedLanes, productsOf};
-ghost use Rattle.dynamics.specs.Dynamics.{DynamicsLanes, binDynamics, placed, dynamicsOf, ranksOf};
+ghost use Rattle.acceleration.specs.Inside.{SpeedLanes};
+ghost use Rattle.acceleration.specs.Products.{productsOf};
+ghost use Rattle.dynamics.specs.Dynamics.{dynamicsOf, ranksOf};
+ghost use Rattle.dynamics.specs.Inside.{DynamicsLanes, placed};
 
 // What the dynamics of a bin come to.
 pub struct Figures {
@@ -20,8 +23,11 @@ pub struct Figures {
 // products, each ascending, and the rest of it is as it was.
 pub fn dynamics(states: &[u8], speeds: &[u16], ranks: &mut [u32]) -> [Figures; 3]
     requires { ⌜ DynamicsLanes (now states) (now speeds) (now ranks) ⌝ }
-    ensures { λ r. ⌜ r ≡ dynamicsOf (now (states .entry)) (now (speeds .entry)) ⌝ }
-    ensures { λ r. ⌜ now (ranks .exit) ≡ ranksOf (now (states .entry)) (now (speeds .entry)) (now (ranks .entry)) ⌝ }
+    ensures { λ r.
+        let states = now (states .entry) in
+        let speeds = now (speeds .entry) in
+        ⌜ (r ≡ ofEach (λ bin. dynamicsOf (productsOf bin states speeds)))
+        × (now (ranks .exit) ≡ ranksOf states speeds (now (ranks .entry))) ⌝ }
 {
     let urban = dynamics_from(states, speeds, base::road::URBAN, ranks, 0);
     let first = urban.m as usize;
@@ -41,8 +47,10 @@ fn dynamics_from(
 ) -> Figures
     requires { ⌜ SpeedLanes (now states) (now speeds) ⌝ }
     requires { ⌜ from + length (productsOf bin (now states) (now speeds)) ≤ length (now lane) ⌝ }
-    ensures { λ r. ⌜ r ≡ binDynamics bin (now (states .entry)) (now (speeds .entry)) ⌝ }
-    ensures { λ r. ⌜ now (lane .exit) ≡ placed from (sort (productsOf bin (now (states .entry)) (now (speeds .entry)))) (now (lane .entry)) ⌝ }
+    ensures { λ r.
+        let products = productsOf bin (now (states .entry)) (now (speeds .entry)) in
+        ⌜ (r ≡ dynamicsOf products)
+        × (now (lane .exit) ≡ placed from (sort products) (now (lane .entry))) ⌝ }
 {
     bin_dynamics(states, speeds, bin, &mut lane[from..])
 }
@@ -51,8 +59,10 @@ fn dynamics_from(
 fn bin_dynamics(states: &[u8], speeds: &[u16], bin: usize, lane: &mut [u32]) -> Figures
     requires { ⌜ SpeedLanes (now states) (now speeds) ⌝ }
     requires { ⌜ length (productsOf bin (now states) (now speeds)) ≤ length (now lane) ⌝ }
-    ensures { λ r. ⌜ r ≡ binDynamics bin (now (states .entry)) (now (speeds .entry)) ⌝ }
-    ensures { λ r. ⌜ now (lane .exit) ≡ withFront (sort (productsOf bin (now (states .entry)) (now (speeds .entry)))) (now (lane .entry)) ⌝ }
+    ensures { λ r.
+        let products = productsOf bin (now (states .entry)) (now (speeds .entry)) in
+        ⌜ (r ≡ dynamicsOf products)
+        × (now (lane .exit) ≡ withFront (sort products) (now (lane .entry))) ⌝ }
 {
     let products = acceleration::write_products(states, speeds, bin, lane);
     let count = products.count;

@@ -16,11 +16,12 @@ use Rattle.sweep.specs.declared.SweepState.{SweepState}
 use Rattle.sweep.specs.declared.Swept.{Swept}
 use Rattle.sweep.specs.Sweep.{beginning, isOver, afterMoves, endsAfter, isReached, firstOutOfRange, sweepRefusal, sweepAnswer, sweepEnds}
 use Rattle.sweep.specs.Window.{windows}
-use Rattle.sweep.specs.Inside.{Standing}
 use Rattle.sweep.proofs.Moves.{begins, over-after, over-ends}
 use Rattle.sweep.proofs.Reached.{stands-reached}
 use Rattle.sweep.proofs.Refusals.{accepted-answer, accepted-ends}
+use Rattle.sweep.proofs.Windows.{windows-most}
 use Rattle.sweep.proofs.Finished.{Ended, ended, stands, over-exactly, state-composes, ends-compose}
+use Rattle.found.specs.Found.{movesToEnd}
 use Rattle.found.specs.Inside.{Sweepable}
 
 module _ (reference : ℕ) (co2 : List ℕ) (room : ℕ) (ok : Sweepable reference co2 room) where
@@ -40,22 +41,16 @@ module _ (reference : ℕ) (co2 : List ℕ) (room : ℕ) (ok : Sweepable referen
       rw (ok .reference-in-range, le-ltb tripLimit (length co2) (ok .few), le-ltb room (length co2) (ok .places), last, first) refl
 
   abbrev pub end : ℕ
-  end = length co2 + windows reference co2
+  end = movesToEnd reference co2
 
   pub over : isOver reference co2 (afterMoves reference co2 end beginning) ≡ true
-  over = over-exactly reference co2 positive (length co2 + windows reference co2) .1 (le-refl _)
+  over = over-exactly reference co2 positive end .1 (le-refl _)
 
   pub at-end : Ended reference co2 (afterMoves reference co2 end beginning)
   at-end = ended reference co2 positive (stands reference co2 positive end) over
 
-  -- no more windows than kept seconds
-  pub windows-at-most : windows reference co2 ≤ length co2
-  windows-at-most =
-      let st : Standing reference co2 (afterMoves reference co2 end beginning) = stands reference co2 positive end in
-      omega (arith, at-end .dropped, st .order, st .within)
-
   enough : 2 * length co2 ≡ end + (length co2 - windows reference co2)
-  enough = omega (arith, windows-at-most)
+  enough = omega (arith, windows-most reference co2)
 
   -- where the sweep stands, and what it has written
   module _ {swept : Swept} (is : swept ≡ sweepAnswer reference co2 room beginning (2 * length co2)) where
@@ -67,10 +62,10 @@ module _ (reference : ℕ) (co2 : List ℕ) (room : ℕ) (ok : Sweepable referen
     pub dropped-all : swept .state .dropped ≡ windows reference co2
     dropped-all = ap (λ (s : SweepState). s .dropped) there ∙ at-end .dropped
 
-    pub moves-all : swept .state .moves ≡ length co2 + windows reference co2
+    pub moves-all : swept .state .moves ≡ movesToEnd reference co2
     moves-all = ap (λ (s : SweepState). s .moves) there ∙ at-end .moves
 
-pub ends-all : (reference : ℕ) (co2 ends : List ℕ) (ok : Sweepable reference co2 (length ends)) → sweepEnds reference co2 ends beginning (2 * length co2) ≡ endsAfter reference co2 (length co2 + windows reference co2) beginning ends
+pub ends-all : (reference : ℕ) (co2 ends : List ℕ) (ok : Sweepable reference co2 (length ends)) → sweepEnds reference co2 ends beginning (2 * length co2) ≡ endsAfter reference co2 (movesToEnd reference co2) beginning ends
 ends-all reference co2 ends ok =
     accepted-ends reference co2 ends beginning (2 * length co2) (accepts reference co2 (length ends) ok)
     ∙ rw (enough reference co2 (length ends) ok, ends-compose reference co2 (end reference co2 (length ends) ok) (length co2 - windows reference co2) beginning ends) (over-ends reference co2 (afterMoves reference co2 (end reference co2 (length ends) ok) beginning) (over reference co2 (length ends) ok) (length co2 - windows reference co2) _)

@@ -1,31 +1,30 @@
 -- The kept lanes of a trip that can be searched can be swept, and judged once they are. Assumes nothing.
-use Prim.Native.Nat.{ℕ, _+_, _*_, _≤_}
+use Prim.Native.Nat.{ℕ, _≤_}
 use mathlib.Core.Path.{_≡_, refl, sym}
 use mathlib.Core.Bool.{and-eq-true-iff}
 use mathlib.Core.List.{List}
-use native.Mathlib.Nat.{le-refl}
 use native.Mathlib.Omega.{arith}
 use borrow.Author.Tests.{le-leb, leb-true}
 use lib.Dec.{leb, eqb}
 use lib.ListN.{length, getD, take, length-append}
 use lib.Seq.{take-at}
 use Rattle.base.specs.declared.Plan.{Plan}
-use Rattle.base.specs.Limits.{tripLimit, speedMost, co2Most, referenceMost}
+use Rattle.base.specs.Limits.{speedMost, co2Most, referenceMost}
 use Rattle.base.specs.Second.{measured}
 use Rattle.base.specs.Words.{withFront}
-use Rattle.base.proofs.Products.{product-at-most}
-use Rattle.base.proofs.Sums.{sum-bound}
+use Rattle.kept.specs.Kept.{keptSpeedLeast}
 use Rattle.kept.proofs.Keeping.{kept-each, kept-both, kept-at-most}
 use Rattle.sweep.specs.Sweep.{beginning, endsAfter}
 use Rattle.sweep.specs.Window.{windows}
 use Rattle.sweep.proofs.Moves.{begins}
 use Rattle.sweep.proofs.Refusals as refusals
 use Rattle.sweep.proofs.Finished.{written}
-use Rattle.windows.specs.Inside.{KeptSpeeds, SweptLanes}
+use Rattle.sweep.proofs.Windows.{windows-most}
+use Rattle.windows.specs.Inside.{SweptLanes}
 use Rattle.windows.proofs.PlanRanges.{plan-ranges}
-use Rattle.found.specs.Found.{keptSpeeds, keptCo2}
+use Rattle.found.specs.Found.{movesToEnd, keptSpeeds, keptCo2}
 use Rattle.found.specs.Inside.{Findable, Kept, Sweepable}
-use Rattle.found.proofs.Ending.{windows-at-most, none-out, at-end}
+use Rattle.found.proofs.Ending.{none-out, at-end}
 
 -- the front of a lane that begins with these values
 pub front-is : (front lane : List ℕ) (n : ℕ) → n ≡ length front → take n (withFront front lane) ≡ front
@@ -42,7 +41,7 @@ keeps {plan} {states} {speeds} {co2} ok =
       same-length = kept-both states speeds speeds co2 (length states);
       few = omega (arith, kept-at-most states speeds co2 (length states), ok .few);
       places = omega (arith, kept-at-most states speeds co2 (length states), ok .ends-room);
-      each-moves = kept-each states speeds speeds (λ x. 100 ≤ x) (length states) (λ i h q. omega (arith, leb-true 100 (getD speeds i 0) (and-eq-true-iff (eqb (getD states i 0) measured) (leb 100 (getD speeds i 0)) .0 q .1)));
+      each-moves = kept-each states speeds speeds (λ x. keptSpeedLeast ≤ x) (length states) (λ i h q. leb-true keptSpeedLeast (getD speeds i 0) (and-eq-true-iff (eqb (getD states i 0) measured) (leb keptSpeedLeast (getD speeds i 0)) .0 q .1));
       speeds-in-range = kept-each states speeds speeds (λ x. x ≤ speedMost) (length states) (ok .speeds-in-range);
       co2-in-range = kept-each states speeds co2 (λ x. x ≤ co2Most) (length states) (ok .co2-in-range);
     }
@@ -60,28 +59,20 @@ module _ {plan : Plan} {speeds co2 : List ℕ} {room : ℕ} (kept : Kept plan sp
       }
 
   pub windows-few : windows (plan .reference) co2 ≤ length co2
-  windows-few = windows-at-most (plan .reference) co2 room sweepable
-
-  -- the kept speeds add up to a number that fits
-  speeds-kept : KeptSpeeds speeds
-  speeds-kept =
-      let short : length speeds ≤ tripLimit = omega (arith, kept .same-length, kept .few) in
-      let all : length speeds * speedMost ≤ tripLimit * speedMost = product-at-most (tripLimit * speedMost) short (le-refl speedMost) tt in
-      record { each = kept .speeds-in-range; fit = omega (arith, sum-bound speedMost speeds (kept .speeds-in-range)) }
+  windows-few = windows-most (plan .reference) co2
 
   -- once they are swept the windows can be judged
-  pub swept : (before after : List ℕ) (count : ℕ) → room ≡ length before → after ≡ endsAfter (plan .reference) co2 (length co2 + windows (plan .reference) co2) beginning before → count ≡ windows (plan .reference) co2 → SweptLanes plan speeds co2 after count
+  pub swept : (before after : List ℕ) (count : ℕ) → room ≡ length before → after ≡ endsAfter (plan .reference) co2 (movesToEnd (plan .reference) co2) beginning before → count ≡ windows (plan .reference) co2 → SweptLanes plan speeds co2 after count
   swept before after count same is counted =
       let positive = plan-ranges plan (kept .plan-in-range) .reference-least in
       let places : length co2 ≤ length before = omega (arith, kept .places) in
-      let w = written (plan .reference) co2 positive (length co2 + windows (plan .reference) co2) beginning before (begins (plan .reference) co2) places in
+      let w = written (plan .reference) co2 positive (movesToEnd (plan .reference) co2) beginning before (begins (plan .reference) co2) places in
       let last = at-end (plan .reference) co2 room sweepable in
       record {
         plan-in-range = kept .plan-in-range;
         same-length = kept .same-length;
-        few = omega (arith, kept .few);
         each-moves = kept .each-moves;
-        speeds-kept = speeds-kept;
+        speeds-kept = record { few = omega (arith, kept .same-length, kept .few); each = kept .speeds-in-range };
         masses-fit = refusals.measured co2 (kept .few) (omega (arith, none-out (plan .reference) co2 room sweepable)) .light;
         places = rw is (omega (arith, w .same-length, places));
         all = counted;

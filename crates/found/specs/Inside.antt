@@ -1,13 +1,16 @@
--- What the steps may take for granted, once the trip is accepted.
+-- What the steps may take for granted, once the trip is accepted, and what one of them is by definition.
 use Prim.Native.Nat.{ℕ, _≤_, _<_}
 use mathlib.Core.Path.{_≡_}
 use mathlib.Core.Bool.{true}
-use mathlib.Core.List.{List}
+use mathlib.Core.List.{List, [], _∷_}
 use lib.ListN.{length, getD}
 use Rattle.base.specs.declared.Plan.{Plan}
 use Rattle.base.specs.Limits.{tripLimit, speedMost, co2Most}
 use Rattle.base.specs.Plan.{referenceInRange, planInRange}
+use Rattle.base.specs.Roads.{urban, rural, motorway}
 use Rattle.kept.specs.Kept.{keptSpeedLeast, secondKept}
+use Rattle.windows.specs.declared.ClassCount.{ClassCount}
+use Rattle.windows.specs.Counts.{noCount}
 
 -- a trip whose windows can be found: lanes of one length, a place per second in each lane to be written, kept values in range
 pub record Findable (plan : Plan) (states speeds co2 : List ℕ) (speed-places co2-places end-places : ℕ) : Type 0 where
@@ -37,3 +40,7 @@ pub record Sweepable (reference : ℕ) (co2 : List ℕ) (room : ℕ) : Type 0 wh
   pub few : length co2 ≤ tripLimit
   pub places : length co2 ≤ room
   pub in-range : (i : ℕ) → i < length co2 → getD co2 i 0 ≤ co2Most
+
+-- the counts of the three classes, without that of the windows that have none
+unfoldable pub threeOf : List ClassCount → List ClassCount
+threeOf all = getD all urban noCount ∷ getD all rural noCount ∷ getD all motorway noCount ∷ []

@@ -4,13 +4,13 @@ use base::Plan;
 use sweep::SweepState;
 use windows::ClassCount;
 ghost use mathlib.Core.Path.{_≡_};
-ghost use Prim.Native.Nat.{_+_};
 ghost use lib.ListN.{length};
 ghost use Rattle.base.specs.Words.{withFront};
+ghost use Rattle.kept.specs.Kept.{keptOf};
 ghost use Rattle.sweep.specs.Sweep.{beginning, endsAfter};
 ghost use Rattle.sweep.specs.Window as window;
-ghost use Rattle.found.specs.Found.{keptSpeeds, keptCo2, endsIn, endsOf, foundIn, foundOf, threeOf};
-ghost use Rattle.found.specs.Inside.{Findable, Kept, Sweepable};
+ghost use Rattle.found.specs.Found.{movesToEnd, foundIn, endsIn};
+ghost use Rattle.found.specs.Inside.{Findable, Kept, Sweepable, threeOf};
 
 // The kept seconds and windows of a trip.
 pub struct Found {
@@ -32,10 +32,14 @@ pub fn find(
     ends: &mut [u16],
 ) -> Found
     requires { ⌜ Findable plan (now states) (now speeds) (now co2) (length (now «kept_speeds»)) (length (now «kept_co2»)) (length (now ends)) ⌝ }
-    ensures { λ r. ⌜ r ≡ foundOf plan (now (states .entry)) (now (speeds .entry)) (now (co2 .entry)) ⌝ }
-    ensures { λ r. ⌜ now («kept_speeds» .exit) ≡ withFront (keptSpeeds (now (states .entry)) (now (speeds .entry))) (now («kept_speeds» .entry)) ⌝ }
-    ensures { λ r. ⌜ now («kept_co2» .exit) ≡ withFront (keptCo2 (now (states .entry)) (now (speeds .entry)) (now (co2 .entry))) (now («kept_co2» .entry)) ⌝ }
-    ensures { λ r. ⌜ now (ends .exit) ≡ endsOf plan (now (states .entry)) (now (speeds .entry)) (now (co2 .entry)) (now (ends .entry)) ⌝ }
+    ensures { λ r.
+        let keeps = keptOf (now (states .entry)) (now (speeds .entry)) in
+        let keptSpeeds = keeps (now (speeds .entry)) in
+        let keptCo2 = keeps (now (co2 .entry)) in
+        ⌜ (r ≡ foundIn plan keptSpeeds keptCo2)
+        × (now («kept_speeds» .exit) ≡ withFront keptSpeeds (now («kept_speeds» .entry)))
+        × (now («kept_co2» .exit) ≡ withFront keptCo2 (now («kept_co2» .entry)))
+        × (now (ends .exit) ≡ endsIn plan keptCo2 (now (ends .entry))) ⌝ }
 {
     let count = kept::keep(states, speeds, co2, kept_speeds, kept_co2);
     find_in(plan, &kept_speeds[..count], &kept_co2[..count], ends)
@@ -44,8 +48,10 @@ pub fn find(
 // Sweeps kept seconds to the end and counts the windows.
 fn find_in(plan: Plan, speeds: &[u16], co2: &[u32], ends: &mut [u16]) -> Found
     requires { ⌜ Kept plan (now speeds) (now co2) (length (now ends)) ⌝ }
-    ensures { λ r. ⌜ r ≡ foundIn plan (now (speeds .entry)) (now (co2 .entry)) ⌝ }
-    ensures { λ r. ⌜ now (ends .exit) ≡ endsIn plan (now (co2 .entry)) (now (ends .entry)) ⌝ }
+    ensures { λ r.
+        let masses = now (co2 .entry) in
+        ⌜ (r ≡ foundIn plan (now (speeds .entry)) masses)
+        × (now (ends .exit) ≡ endsIn plan masses (now (ends .entry))) ⌝ }
 {
     let swept = sweep_all(plan.reference, co2, ends);
     let windows = swept.dropped as usize;
@@ -62,7 +68,12 @@ fn find_in(plan: Plan, speeds: &[u16], co2: &[u32], ends: &mut [u16]) -> Found
 // seconds are enough, since each is taken once and dropped once at most.
 fn sweep_all(reference: u32, co2: &[u32], ends: &mut [u16]) -> SweepState
     requires { ⌜ Sweepable reference (now co2) (length (now ends)) ⌝ }
-    ensures { λ r. ⌜ (r .dropped ≡ window.windows reference (now (co2 .entry))) × (r .moves ≡ length (now (co2 .entry)) + window.windows reference (now (co2 .entry))) × (now (ends .exit) ≡ endsAfter reference (now (co2 .entry)) (length (now (co2 .entry)) + window.windows reference (now (co2 .entry))) beginning (now (ends .entry))) ⌝ }
+    ensures { λ r.
+        let masses = now (co2 .entry) in
+        let moves = movesToEnd reference masses in
+        ⌜ (r .dropped ≡ window.windows reference masses)
+        × (r .moves ≡ moves)
+        × (now (ends .exit) ≡ endsAfter reference masses moves beginning (now (ends .entry))) ⌝ }
 {
     let start = SweepState {
         taken: 0,

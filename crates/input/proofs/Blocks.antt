@@ -5,32 +5,33 @@ use mathlib.Core.Bool.{true}
 use mathlib.Core.List.{List, [], _∷_, _++_, map, flatten}
 use native.Mathlib.Omega.{arith}
 use native.Mathlib.Nat.{min-le-right}
-use lib.IntN.{ℤ}
 use lib.ListN.{length, getD, take, length-take}
 use lib.Seq.{length-sets}
 use Rattle.item.specs.Format.{Bytes}
 use Rattle.item.proofs.Encoding.{no-bytes, append-bytes, take-bytes}
-use Rattle.stream.specs.declared.Row.{Row}
+use Rattle.second.specs.declared.Row.{Row}
 use Rattle.reader.specs.declared.Reader.{Reader}
 use Rattle.reader.specs.declared.Fed.{Fed}
-use Rattle.reader.specs.Blocks.{started, readerAfter, secondsAdded, laneWith, fedAll, laneAll}
-use Rattle.reader.specs.Made.{wasMade, fedOf, laneFed}
+use Rattle.reader.specs.Reader.{carryPlaces, started}
+use Rattle.reader.specs.Blocks.{readerAfter, secondsAdded, laneWith, fedAll, laneAll, fedOf, laneFed, lanesFed}
+use Rattle.reader.specs.Inside.{wasMade}
+use Rattle.reader.proofs.EachLane.{each-same, each-long}
 use Rattle.reader.proofs.Making.{start-made, start-places, feeding-places, fed-nothing}
 use Rattle.reader.proofs.Whole.{fed-made, lane-made, fed-all, lane-all}
-use Rattle.second.specs.Lanes.{Lanes}
-use Rattle.input.specs.Input.{roomIn, eachLane, blockMost, Block, HasFed, HasRead}
-use Rattle.input.proofs.Lanes.{each-is, each-same, each-long}
+use Rattle.second.specs.Lanes.{Lanes, roomIn, eachLane}
+use Rattle.input.specs.Inside.{HasFed}
+use Rattle.input.specs.Input.{blockMost, Block, HasRead}
 
 -- ---- a read
 pub no-block : Block []
 no-block = record { bytes = no-bytes; most = omega arith }
 
 -- that brought nothing
-lane-nothing : (A : Type 0) (value : Row → A) (room : ℕ) (r : Reader) (lane : List A) → wasMade r ≡ true → length (r .held) ≡ 21 → lane ≡ laneWith value room r [] lane
+lane-nothing : (A : Type 0) (value : Row → A) (room : ℕ) (r : Reader) (lane : List A) → wasMade r ≡ true → length (r .held) ≡ carryPlaces → lane ≡ laneWith value room r [] lane
 unfolding laneAll flatten
 lane-nothing A value room r lane made long = lane-all room value [] r lane made long
 
-pub has-fed-nothing : (lanes : Lanes) (r : Reader) → wasMade r ≡ true → length (r .held) ≡ 21 → HasFed lanes r [] r lanes
+pub has-fed-nothing : (lanes : Lanes) (r : Reader) → wasMade r ≡ true → length (r .held) ≡ carryPlaces → HasFed lanes r [] r lanes
 has-fed-nothing lanes r made long =
     record {
       block = no-block;
@@ -44,17 +45,14 @@ block-of n block long bytes =
     record { bytes = take-bytes n block bytes; most = rw (length-take n block) (omega (arith, min-le-right n (length block))) }
 
 module _ (before after : Lanes) (r : Reader) (came : List ℕ) (made : wasMade r ≡ true) where
-  abbrev fedLane : (A : Type 0) → (Row → A) → List A → List A
-  fedLane A value lane = laneFed value (roomIn before) r came lane
-
-  pub has-fed : (fed : Fed) → Block came → fed ≡ fedOf (roomIn before) r came → after .states ≡ fedLane ℕ (λ s. s .state) (before .states) → after .speeds ≡ fedLane ℕ (λ s. s .speed) (before .speeds) → after .altitudes ≡ fedLane ℤ (λ s. s .altitude) (before .altitudes) → after .co2 ≡ fedLane ℕ (λ s. s .co2) (before .co2) → after .nox ≡ fedLane ℕ (λ s. s .nox) (before .nox) → HasFed before r came (fed .reader) after
-  has-fed fed block is states speeds altitudes co2 nox =
+  pub has-fed : (fed : Fed) → Block came → fed ≡ fedOf (roomIn before) r came → after ≡ lanesFed r came before → HasFed before r came (fed .reader) after
+  has-fed fed block is left =
       record {
         block = block;
         reader = ap (λ (f : Fed). f .reader) (is ∙ fed-made r made (roomIn before) came);
         lanes =
-            each-is fedLane before after states speeds altitudes co2 nox
-            ∙ each-same fedLane (λ A value. laneWith value (roomIn before) r came) before (λ A value lane fits. lane-made r made value (roomIn before) came lane);
+            left
+            ∙ each-same (λ A value. laneFed value (roomIn before) r came) (λ A value. laneWith value (roomIn before) r came) before (λ A value lane fits. lane-made r made value (roomIn before) came lane);
       }
 
 -- ---- all reads
@@ -114,7 +112,7 @@ has-read-more before r between came next after read fed =
     }
 
 -- the places of the reader's carry
-pub read-places : (before : Lanes) (r : Reader) (after : Lanes) → HasRead before r after → length (r .held) ≡ 21
+pub read-places : (before : Lanes) (r : Reader) (after : Lanes) → HasRead before r after → length (r .held) ≡ carryPlaces
 read-places before r after read =
     ap (λ (q : Reader). length (q .held)) (read .reader ∙ fed-all (roomIn before) (read .blocks) started start-made start-places)
     ∙ feeding-places (roomIn before) started (flatten (read .blocks)) start-places

@@ -9,12 +9,13 @@ use lib.ListN.{length, take}
 use lib.Seq.{length-take-le}
 use borrow.Author.Tests.{eqb-true, ne-eqb}
 use Rattle.reader.specs.declared.Reader.{Reader}
-use Rattle.reader.specs.Blocks.{waiting, started}
-use Rattle.reader.specs.Made.{wasMade}
+use Rattle.reader.specs.Reader.{carryPlaces, started, readerAt}
+use Rattle.reader.specs.Inside.{wasMade}
 use Rattle.reader.proofs.Making.{start-made, feeding-made}
-use Rattle.second.specs.Lanes.{Lanes}
+use Rattle.second.specs.Lanes.{Lanes, roomIn}
 use Rattle.input.specs.declared.Input.{Input}
-use Rattle.input.specs.Input.{roomIn, blockMost, Unsettled, HasFed, goesOn, HasRead}
+use Rattle.input.specs.Inside.{Unsettled, HasFed}
+use Rattle.input.specs.Input.{blockMost, goesOn, HasRead}
 use Rattle.input.proofs.Blocks.{has-read-nothing, has-read-more, read-places}
 use Rattle.input.proofs.Settling.{seenBy, enough, seen-more, seen-most}
 
@@ -46,7 +47,7 @@ pub record Stands (reads : ℕ) (before : Lanes) (input : Input) (after : Lanes)
 
 -- before the first read
 pub stands-first : (reads : ℕ) (lanes : Lanes) (input : Input) → input .reader ≡ started → input .more ≡ true → enough ≤ reads → Stands reads lanes input lanes
-unfolding waiting
+unfolding readerAt
 stands-first reads lanes input is more suffices =
     record {
       reaches = λ on. (record { made = ap wasMade is ∙ start-made; unsettled = ap (λ (r : Reader). r .refusal) is }, omega arith);
@@ -57,7 +58,7 @@ stands-first reads lanes input is more suffices =
 -- after one read
 module _ (before : Lanes) (r : Reader) (block : List ℕ) (next : Input) (after : Lanes) (fed : HasFed before r (take (next .came) block) (next .reader) after) where
   -- it brings the reading on
-  reaches-next : (reads : ℕ) → Unsettled r × (enough ≤ reads + seenBy r) → 0 < reads → length (r .held) ≡ 21 → next .came ≤ length block → next .more ≡ goesOn next → Reaches (reads - 1) next
+  reaches-next : (reads : ℕ) → Unsettled r × (enough ≤ reads + seenBy r) → 0 < reads → length (r .held) ≡ carryPlaces → next .came ≤ length block → next .more ≡ goesOn next → Reaches (reads - 1) next
   reaches-next reads so-far left long within goes more =
       let on = going next (sym goes ∙ more) in
       let u = so-far .0 in

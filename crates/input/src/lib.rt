@@ -10,15 +10,15 @@ ghost use mathlib.Core.Bool.{false};
 ghost use Prim.Native.Nat.{_≤_};
 ghost use lib.ListN.{length, take};
 ghost use Rattle.second.specs.Lanes.{lanesOf};
-ghost use Rattle.input.specs.Input.{blockMost, Unsettled, HasFed, goesOn, HasRead};
+ghost use Rattle.input.specs.Inside.{Unsettled, HasFed};
+ghost use Rattle.input.specs.Input.{blockMost, goesOn, HasRead};
 
 // The most bytes of one read.
 pub const BLOCK: usize = 4_096;
 
-// So many bytes settle every stream: a plan, the longest trip of seconds with values, and one item
-// more, of which a plan is the longest. A read before the end gives at least one byte, so that no
-// more reads are needed.
-const READS: usize = kind::PLAN_SIZE + limits::TRIP * kind::SECOND_SIZE + kind::PLAN_SIZE;
+// So many bytes settle every stream: a plan, the longest trip of the longest seconds, and one item
+// more. A read before the end gives at least one byte, so that no more reads are needed.
+const READS: usize = kind::PLAN_SIZE + limits::TRIP * kind::LONGEST_SECOND + kind::LONGEST;
 
 // Where the reading of the input stands.
 pub struct Input {
@@ -39,7 +39,10 @@ pub fn read_input(
     nox: &mut [u32],
 ) -> Input
     requires { ⌜ length (now block) ≡ blockMost ⌝ }
-    ensures read { λ r. let before = lanesOf (now (states .entry)) (now (speeds .entry)) (now (altitudes .entry)) (now (co2 .entry)) (now (nox .entry)) in let after = lanesOf (now (states .exit)) (now (speeds .exit)) (now (altitudes .exit)) (now (co2 .exit)) (now (nox .exit)) in ⌜ HasRead before (r .reader) after ⌝ }
+    ensures read { λ r.
+        let before = lanesOf (now (states .entry)) (now (speeds .entry)) (now (altitudes .entry)) (now (co2 .entry)) (now (nox .entry)) in
+        let after = lanesOf (now (states .exit)) (now (speeds .exit)) (now (altitudes .exit)) (now (co2 .exit)) (now (nox .exit)) in
+        ⌜ HasRead before (r .reader) after ⌝ }
     ensures ended { λ r. ⌜ goesOn r ≡ false ⌝ }
 {
     let mut input = Input {
@@ -70,7 +73,10 @@ fn read_block(
 ) -> Input
     requires { ⌜ Unsettled reader ⌝ }
     requires { ⌜ length (now block) ≡ blockMost ⌝ }
-    ensures fed { λ r. let before = lanesOf (now (states .entry)) (now (speeds .entry)) (now (altitudes .entry)) (now (co2 .entry)) (now (nox .entry)) in let after = lanesOf (now (states .exit)) (now (speeds .exit)) (now (altitudes .exit)) (now (co2 .exit)) (now (nox .exit)) in ⌜ HasFed before reader (take (r .came) (now (block .exit))) (r .reader) after ⌝ }
+    ensures fed { λ r.
+        let before = lanesOf (now (states .entry)) (now (speeds .entry)) (now (altitudes .entry)) (now (co2 .entry)) (now (nox .entry)) in
+        let after = lanesOf (now (states .exit)) (now (speeds .exit)) (now (altitudes .exit)) (now (co2 .exit)) (now (nox .exit)) in
+        ⌜ HasFed before reader (take (r .came) (now (block .exit))) (r .reader) after ⌝ }
     ensures within { λ r. ⌜ r .came ≤ blockMost ⌝ }
     ensures goes_on { λ r. ⌜ r .more ≡ goesOn r ⌝ }
 {

@@ -4,5 +4,7 @@ pub mod Encoding
 pub mod Table
 pub mod Fronts
 pub mod Views
+pub mod Seconds
+pub mod Offsets
 pub mod Prefix
 pub mod Refused

@@ -2,3 +2,4 @@
 pub mod Format
 pub mod Item
 pub mod Outcomes
+pub mod Inside

@@ -12,18 +12,19 @@ use Rattle.base.specs.Words.{withFront}
 use Rattle.stream.specs.declared.ReadAnswer.{ReadAnswer}
 use Rattle.stream.specs.Reading.{readOf, laneAfter}
 use Rattle.reader.specs.declared.Reader.{Reader}
-use Rattle.reader.specs.Blocks.{started, laneAll}
-use Rattle.reader.specs.Made.{endOf}
+use Rattle.reader.specs.Reader.{started}
+use Rattle.reader.specs.Blocks.{laneAll, endOf}
 use Rattle.reader.proofs.Whole.{blocks-end, blocks-lane}
-use Rattle.second.specs.Lanes.{Lanes}
+use Rattle.second.specs.Lanes.{Lanes, roomIn, eachLane}
 use Rattle.trip.specs.declared.Rooms.{Rooms}
 use Rattle.report.specs.Lines.{bufferWritten, longestText}
 use Rattle.report.proofs.Fitting.{fits-buffer}
 use Rattle.printed.specs.Printed.{printedText}
 use Rattle.printed.proofs.Texts.{refused-text}
-use Rattle.input.specs.Input.{roomIn, eachLane, HasRead}
-use Rattle.judge.specs.Judged.{HasPlaces, JudgedAsOne}
-use Rattle.input.proofs.Lanes.{each-same}
+use Rattle.input.specs.Input.{HasRead}
+use Rattle.judge.specs.Inside.{HasPlaces}
+use Rattle.judge.specs.Judged.{JudgedAsOne}
+use Rattle.reader.proofs.EachLane.{each-same}
 use Rattle.input.proofs.Blocks.{flat-bytes}
 
 -- a buffer for the longest text has every text at its front
@@ -48,7 +49,7 @@ text-whole before rooms blocks = go (eqb (read .refusal) 0) refl
 
     go : (t : Bool) → eqb (read .refusal) 0 ≡ t → printedText read fed rooms ≡ printedText read whole rooms
     go true e = ap (λ (lanes : Lanes). printedText read lanes rooms) (each-same (λ A value. laneAll value room started blocks) (λ A value. laneAfter value room (flatten blocks)) before (λ A value lane fits. blocks-lane room blocks value lane fits (eqb-true (read .refusal) 0 e)))
-    go false e = let bad = eqb-false (read .refusal) 0 e in refused-text read fed rooms bad ∙ sym (refused-text read whole rooms bad)
+    go false e = let bad = eqb-false (read .refusal) 0 e in refused-text read fed bad rooms ∙ sym (refused-text read whole bad rooms)
 
 -- lanes with a place for each second of the longest trip
 room-long : (lanes : Lanes) (rooms : Rooms) → HasPlaces lanes rooms → roomIn lanes ≡ tripLimit

@@ -11,11 +11,12 @@ ghost use mathlib.Core.Bool.{true, false};
 ghost use lib.ListN.{length};
 ghost use Rattle.base.specs.Words.{withFront};
 ghost use Rattle.second.specs.Lanes.{lanesOf};
-ghost use Rattle.trip.specs.Refusals.{roomsOf};
+ghost use Rattle.trip.specs.Lent.{lentOf, roomsIn};
 ghost use Rattle.report.specs.Lines.{longestText};
-ghost use Rattle.printed.specs.Printed.{printedText, keptSpeedsLeft, keptCo2Left, endsLeft, ranksLeft};
+ghost use Rattle.printed.specs.Printed.{printedText, lentAfter};
 ghost use Rattle.input.specs.Input.{blockMost};
-ghost use Rattle.judge.specs.Judged.{HasPlaces, JudgedAsOne};
+ghost use Rattle.judge.specs.Inside.{HasPlaces};
+ghost use Rattle.judge.specs.Judged.{JudgedAsOne};
 
 // Lends what is filled: a block, nine lanes with a place for each second of the longest trip, and a
 // buffer for the longest text. Says on standard error where the input could not be read.
@@ -66,9 +67,12 @@ fn judge_input(
     text: &mut [u8],
 ) -> bool
     requires { ⌜ length (now block) ≡ blockMost ⌝ }
-    requires { ⌜ HasPlaces (lanesOf (now states) (now speeds) (now altitudes) (now co2) (now nox)) (roomsOf (now «kept_speeds») (now «kept_co2») (now ends) (now ranks)) ⌝ }
+    requires { ⌜ HasPlaces (lanesOf (now states) (now speeds) (now altitudes) (now co2) (now nox)) (roomsIn (lentOf (now «kept_speeds») (now «kept_co2») (now ends) (now ranks))) ⌝ }
     requires { ⌜ length (now text) ≡ longestText ⌝ }
-    ensures judged { λ r. let lanes = lanesOf (now (states .entry)) (now (speeds .entry)) (now (altitudes .entry)) (now (co2 .entry)) (now (nox .entry)) in let rooms = roomsOf (now («kept_speeds» .entry)) (now («kept_co2» .entry)) (now (ends .entry)) (now (ranks .entry)) in ⌜ (r ≡ true → JudgedAsOne lanes rooms (now (text .entry)) (now (text .exit))) ⌝ }
+    ensures judged { λ r.
+        let lanes = lanesOf (now (states .entry)) (now (speeds .entry)) (now (altitudes .entry)) (now (co2 .entry)) (now (nox .entry)) in
+        let rooms = roomsIn (lentOf (now («kept_speeds» .entry)) (now («kept_co2» .entry)) (now (ends .entry)) (now (ranks .entry))) in
+        ⌜ (r ≡ true → JudgedAsOne lanes rooms (now (text .entry)) (now (text .exit))) ⌝ }
     ensures unjudged { λ r. ⌜ (r ≡ false → now (text .exit) ≡ now (text .entry)) ⌝ }
 {
     let input = input::read_input(block, states, speeds, altitudes, co2, nox);
@@ -107,7 +111,12 @@ fn print_answer(
     text: &mut [u8],
 )
     requires { ⌜ length (now text) ≡ longestText ⌝ }
-    ensures { λ _. let lanes = lanesOf (now (states .entry)) (now (speeds .entry)) (now (altitudes .entry)) (now (co2 .entry)) (now (nox .entry)) in let rooms = roomsOf (now («kept_speeds» .entry)) (now («kept_co2» .entry)) (now (ends .entry)) (now (ranks .entry)) in ⌜ (now (text .exit) ≡ withFront (printedText read lanes rooms) (now (text .entry))) × (now («kept_speeds» .exit) ≡ keptSpeedsLeft read lanes rooms (now («kept_speeds» .entry))) × (now («kept_co2» .exit) ≡ keptCo2Left read lanes rooms (now («kept_co2» .entry))) × (now (ends .exit) ≡ endsLeft read lanes rooms (now (ends .entry))) × (now (ranks .exit) ≡ ranksLeft read lanes rooms (now (ranks .entry))) ⌝ }
+    ensures { λ _.
+        let lanes = lanesOf (now (states .entry)) (now (speeds .entry)) (now (altitudes .entry)) (now (co2 .entry)) (now (nox .entry)) in
+        let lent = lentOf (now («kept_speeds» .entry)) (now («kept_co2» .entry)) (now (ends .entry)) (now (ranks .entry)) in
+        let left = lentOf (now («kept_speeds» .exit)) (now («kept_co2» .exit)) (now (ends .exit)) (now (ranks .exit)) in
+        ⌜ (now (text .exit) ≡ withFront (printedText read lanes (roomsIn lent)) (now (text .entry)))
+        × (left ≡ lentAfter read lanes lent) ⌝ }
 {
     let length = printed::write_text(
         read,

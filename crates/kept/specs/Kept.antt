@@ -1,6 +1,5 @@
 -- Kept seconds (Appendix 5).
-use Prim.Native.Nat.{ℕ, _≤_}
-use mathlib.Core.Path.{_≡_}
+use Prim.Native.Nat.{ℕ}
 use mathlib.Core.Bool.{Bool, _&&_}
 use mathlib.Core.List.{List, [], _∷_, _++_}
 use lib.Dec.{leb, eqb}
@@ -24,10 +23,3 @@ keptAfter states speeds lane =
 -- "Kept speeds and CO2 masses stand in order in lanes of their own.": what a lane has for the kept seconds
 abbrev pub keptOf : List ℕ → List ℕ → List ℕ → List ℕ
 keptOf states speeds lane = keptAfter states speeds lane (length states)
-
--- what keeping is asked of: lanes of one length, and a place per second in each lane to be written
-pub record KeptLanes (states speeds co2 : List ℕ) (speed-places co2-places : ℕ) : Type 0 where
-  pub speeds-agree : length speeds ≡ length states
-  pub co2-agree : length co2 ≡ length states
-  pub speeds-room : length states ≤ speed-places
-  pub co2-room : length states ≤ co2-places

@@ -1,2 +1,3 @@
 -- The definitions of kept seconds.
 pub mod Kept
+pub mod Inside

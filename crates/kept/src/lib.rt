@@ -4,7 +4,8 @@
 ghost use mathlib.Core.Path.{_≡_};
 ghost use lib.ListN.{length};
 ghost use Rattle.base.specs.Words.{withFront};
-ghost use Rattle.kept.specs.Kept.{KeptLanes, secondKept, keptOf};
+ghost use Rattle.kept.specs.Kept.{secondKept, keptOf};
+ghost use Rattle.kept.specs.Inside.{KeptLanes};
 
 // The slowest speed of a kept second, 0.01 km/h.
 const SLOWEST: u16 = 100;
@@ -19,9 +20,11 @@ pub fn keep(
     kept_co2: &mut [u32],
 ) -> usize
     requires { ⌜ KeptLanes (now states) (now speeds) (now co2) (length (now «kept_speeds»)) (length (now «kept_co2»)) ⌝ }
-    ensures { λ r. ⌜ r ≡ length (keptOf (now (states .entry)) (now (speeds .entry)) (now (co2 .entry))) ⌝ }
-    ensures { λ r. ⌜ now («kept_speeds» .exit) ≡ withFront (keptOf (now (states .entry)) (now (speeds .entry)) (now (speeds .entry))) (now («kept_speeds» .entry)) ⌝ }
-    ensures { λ r. ⌜ now («kept_co2» .exit) ≡ withFront (keptOf (now (states .entry)) (now (speeds .entry)) (now (co2 .entry))) (now («kept_co2» .entry)) ⌝ }
+    ensures { λ r.
+        let keeps = keptOf (now (states .entry)) (now (speeds .entry)) in
+        ⌜ (r ≡ length (keeps (now (co2 .entry))))
+        × (now («kept_speeds» .exit) ≡ withFront (keeps (now (speeds .entry))) (now («kept_speeds» .entry)))
+        × (now («kept_co2» .exit) ≡ withFront (keeps (now (co2 .entry))) (now («kept_co2» .entry))) ⌝ }
 {
     let mut count = 0;
     let mut i = 0;

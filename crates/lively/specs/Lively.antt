@@ -11,9 +11,10 @@ tooLively s n q =
     (ltb (176_256 * s + 1_871_424_000 * n) (5 * q * n))
     (ltb (480_816 * s + 12_289_968_000 * n) (25 * q * n))
 
+-- "3,125TN + 36S² < 394,875SN"
+abbrev pub belowCurve : ℕ → ℕ → ℕ → Bool
+belowCurve s n t = ltb (3_125 * t * n + 36 * (s * s)) (394_875 * s * n)
+
 -- "too dull: if S ≤ 9,405N, 3,125TN + 36S² < 394,875SN; else T < 18S"
 unfoldable pub tooDull : ℕ → ℕ → ℕ → Bool
-tooDull s n t =
-    pick (leb s (9_405 * n))
-    (ltb (3_125 * t * n + 36 * (s * s)) (394_875 * s * n))
-    (ltb t (18 * s))
+tooDull s n t = pick (leb s (9_405 * n)) (belowCurve s n t) (ltb t (18 * s))

@@ -3,9 +3,9 @@
 // s and n are the bin's sums of speeds and seconds, t the sum of its products, q its percentile.
 
 ghost use mathlib.Core.Path.{_≡_};
-ghost use Prim.Native.Nat.{_+_, _*_, _≤_};
+ghost use Prim.Native.Nat.{_+_, _*_};
 ghost use lib.Dec.{ltb};
-ghost use Rattle.lively.specs.Lively.{tooLively, tooDull};
+ghost use Rattle.lively.specs.Lively.{tooLively, tooDull, belowCurve};
 
 // Whether a bin is too lively.
 pub fn too_lively(s: u32, n: u32, q: u64) -> bool
@@ -18,12 +18,11 @@ pub fn too_lively(s: u32, n: u32, q: u64) -> bool
 }
 
 // Whether k times q times n is above a times s plus b times n.
-fn above_line(s: u32, n: u32, q: u64, k: u64, a: u64, b: u64) -> bool
-    requires { ⌜ (k ≤ 25) × (a ≤ 480_816) × (b ≤ 12_289_968_000) ⌝ }
+fn above_line(s: u32, n: u32, q: u64, k: u32, a: u64, b: u64) -> bool
     ensures { λ r. ⌜ r ≡ ltb (a * s + b * n) (k * q * n) ⌝ }
 {
     let line = wide::sum(wide::product(a, s as u64), wide::product(b, n as u64));
-    wide::less(line, wide::product(q, k * (n as u64)))
+    wide::less(line, wide::product(q, k as u64 * (n as u64)))
 }
 
 // Whether a bin is too dull.
@@ -36,9 +35,9 @@ pub fn too_dull(s: u32, n: u32, t: u64) -> bool
     t < 18 * (s as u64)
 }
 
-// Whether 3,125 times t times n plus 36 times the square of s is below 394,875 times s times n.
+// Whether t lies below the curve that bounds slow bins.
 fn below_curve(s: u32, n: u32, t: u64) -> bool
-    ensures { λ r. ⌜ r ≡ ltb (3_125 * t * n + 36 * (s * s)) (394_875 * s * n) ⌝ }
+    ensures { λ r. ⌜ r ≡ belowCurve s n t ⌝ }
 {
     let speed = s as u64;
     let seconds = n as u64;

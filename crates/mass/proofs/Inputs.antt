@@ -5,12 +5,11 @@ use mathlib.Core.Bool.{true, _&&_, false≢true}
 use native.Mathlib.Nat.{mul-one}
 use lib.Dec.{lit≤}
 use lib.Ieee.{Float, ofInt, round}
-use Rattle.base.proofs.Choice.{both-ways}
 use Rattle.mass.specs.declared.Reading.{Reading}
 use Rattle.mass.specs.declared.Reading.the-variants.{WetPpm, DryPpm, WetPercent, DryPercent}
 use Rattle.mass.specs.declared.Setting.{Setting}
-use Rattle.mass.specs.Mass.{number, hundredth, zeroTo, aboveZeroTo, readingInRange, settingInRange, inPpm, isDry, wetPpm, lastProduct}
-use Rattle.mass.specs.Bounded.{Bounded, bounded}
+use Rattle.mass.specs.Mass.{number, hundredth, zeroTo, aboveZeroTo, readingInRange, settingInRange, ppmOf, wetPpm, lastProduct}
+use Rattle.mass.specs.Inside.{Bounded, bounded}
 use Rattle.base.proofs.Tests.{and-left, and-right}
 use Rattle.mass.proofs.Ranges.{zero-to-bounded, above-zero-to-bounded}
 use Rattle.mass.proofs.Products.{times-bounded}
@@ -56,8 +55,15 @@ pub ppm-in-percent : Bounded (number 10_000) 10_000
 unfolding ofInt
 ppm-in-percent = bounded (λ s. absurd (false≢true s)) (lit≤ tt)
 
+-- a reading in ppm, wet or dry
+abbrev pub inPpm : Reading → Float
+inPpm (WetPpm x) = x
+inPpm (DryPpm x) = x
+inPpm (WetPercent x) = ppmOf x
+inPpm (DryPercent x) = ppmOf x
+
 ppm-bounded : (reading : Reading) → readingInRange reading ≡ true → Bounded (inPpm reading) 200_000
-unfolding readingInRange inPpm
+unfolding readingInRange
 ppm-bounded (WetPpm x) h = zero-to-bounded x ppm-end h
 ppm-bounded (DryPpm x) h = zero-to-bounded x ppm-end h
 ppm-bounded (WetPercent x) h = times-bounded (zero-to-bounded x percent-end h) ppm-in-percent (lit≤ tt)
@@ -66,7 +72,10 @@ ppm-bounded (DryPercent x) h = times-bounded (zero-to-bounded x percent-end h) p
 -- what bounds the concentration bounds it wet
 pub wet-at-most : (reading : Reading) (factor : Float) (top : ℕ) → top ≤ 2 ^ 53 → Bounded (inPpm reading) top → Bounded factor 1 → Bounded (wetPpm reading factor) top
 unfolding wetPpm
-wet-at-most reading factor top fine ppm f = both-ways (λ (x : Float). Bounded x top) (isDry reading) (rw mul-one at (times-bounded ppm f (rw mul-one fine))) ppm
+wet-at-most (WetPpm x) factor top fine ppm f = ppm
+wet-at-most (DryPpm x) factor top fine ppm f = rw mul-one at (times-bounded ppm f (rw mul-one fine))
+wet-at-most (WetPercent x) factor top fine ppm f = ppm
+wet-at-most (DryPercent x) factor top fine ppm f = rw mul-one at (times-bounded ppm f (rw mul-one fine))
 
 pub wet-bounded : (reading : Reading) (factor : Float) → readingInRange reading ≡ true → Bounded factor 1 → Bounded (wetPpm reading factor) 200_000
 wet-bounded reading factor h f = wet-at-most reading factor 200_000 (lit≤ tt) (ppm-bounded reading h) f

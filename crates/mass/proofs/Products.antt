@@ -13,7 +13,7 @@ use lib.Ieee.Order.{round-mono}
 use lib.Ieee.Bits.{is-true}
 use lib.Ieee.Fits.{up-pos, down-pos, and-i}
 use Rattle.mass.specs.Mass.{zeroTo, times}
-use Rattle.mass.specs.Bounded.{Bounded, bounded}
+use Rattle.mass.specs.Inside.{Bounded, bounded}
 use Rattle.mass.proofs.Ranges.{no-size, through, zero-to-bounded}
 
 -- a finite number with the sign s and the size a / c, which is at most top, and 0 where the sign is negative

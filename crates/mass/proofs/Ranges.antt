@@ -11,7 +11,7 @@ use lib.Ieee.Fits.{up-pos, down-pos}
 use borrow.Author.Tests.{ltb-true, eqb-true}
 use Rattle.base.proofs.Tests.{and-left, and-right}
 use Rattle.mass.specs.Mass.{number, zeroTo, aboveZeroTo}
-use Rattle.mass.specs.Bounded.{Bounded, bounded}
+use Rattle.mass.specs.Inside.{Bounded, bounded}
 
 -- ---- tests that hold, taken apart
 or-elim : {X : Type 0} (p q : Bool) → p || q ≡ true → (p ≡ true → X) → (q ≡ true → X) → X

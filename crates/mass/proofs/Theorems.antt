@@ -16,11 +16,11 @@ use Rattle.mass.specs.declared.Reading.the-variants.{WetPpm, DryPpm, Wet
 use Rattle.mass.specs.declared.Setting.{Setting}
 use Rattle.mass.specs.declared.Weighed.{Weighed}
 use Rattle.mass.specs.declared.Weighed.the-variants.{Mass, BadInput, TooLarge}
-use Rattle.mass.specs.Bounded.{Bounded, bounded}
-use Rattle.mass.specs.Mass.{zeroTo, readingInRange, settingInRange, inPpm, lastProduct, wholePart, massAnswer, refusalOf, wholeMassOf}
+use Rattle.mass.specs.Inside.{Bounded, bounded}
+use Rattle.mass.specs.Mass.{zeroTo, readingInRange, settingInRange, lastProduct, wholePart, massAnswer}
 use Rattle.mass.specs.Outcomes.{Outcome, bad-input, too-large, fine}
 use Rattle.mass.proofs.Products.{times-bounded}
-use Rattle.mass.proofs.Inputs.{setting-bounded, ppm-in-percent, wet-at-most, wet-bounded}
+use Rattle.mass.proofs.Inputs.{inPpm, setting-bounded, ppm-in-percent, wet-at-most, wet-bounded}
 use Rattle.mass.proofs.Answer.{whole-mass}
 
 -- ---- refused exactly when
@@ -47,18 +47,6 @@ module _ (scale : Float) (limit : ℕ) (reading : Reading) (s : Setting) where
 
   pub refused-exactly : (answer : Weighed) → (massAnswer scale limit reading s ≡ answer) ↔ Outcome scale limit reading s answer
   refused-exactly answer = (λ e. rw e at outcome, only)
-
--- the paper's numbers of the three cases
-pub numbers : (refusalOf BadInput ≡ 9) × (refusalOf TooLarge ≡ 10) × ((m : ℕ) → refusalOf (Mass m) ≡ 0)
-unfolding refusalOf
-numbers = (refl, refl, λ m. refl)
-
--- a refusal has no mass
-pub refused-no-mass : (answer : Weighed) → (refusalOf answer ≡ 0 → ⊥) → wholeMassOf answer ≡ 0
-unfolding refusalOf wholeMassOf
-refused-no-mass (Mass m) h = absurd (h refl)
-refused-no-mass BadInput h = refl
-refused-no-mass TooLarge h = refl
 
 -- ---- the whole part is the floor: at most the number m * 2 ^ e = m * up e / down e, and less than 1 below it
 pub floor : (t : Bool) (m : ℕ) (e : ℤ) → (wholePart (fin t m e) * down e ≤ m * up e) × (m * up e < (wholePart (fin t m e) + 1) * down e)
@@ -96,7 +84,6 @@ zero-in-range (dry-percent true) = refl
 zero-in-range (dry-percent false) = refl
 
 zero-ppm : {reading : Reading} → ZeroReading reading → Bounded (inPpm reading) 0
-unfolding inPpm
 zero-ppm (wet-ppm sign) = zero-bounded sign
 zero-ppm (dry-ppm sign) = zero-bounded sign
 zero-ppm (wet-percent sign) = times-bounded (zero-bounded sign) ppm-in-percent (lit≤ tt)

@@ -14,7 +14,7 @@ use lib.Ieee.Digits.{size-lt, size-reaches, size-le}
 use lib.Ieee.Fits.{kept-lt, down-pos}
 use borrow.Author.Tests.{ltb-true, ltb-false, lt-ltb}
 use Rattle.mass.specs.Mass.{wholePart}
-use Rattle.mass.specs.Bounded.{Bounded, bounded}
+use Rattle.mass.specs.Inside.{Bounded, bounded}
 
 -- a number from 2 ^ j up has more than j digits
 more-digits : (n j : ℕ) → 2 ^ j ≤ n → j < size n

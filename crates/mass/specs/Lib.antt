@@ -1,4 +1,4 @@
 -- The definitions of the mass step.
 pub mod Mass
-pub mod Bounded
+pub mod Inside
 pub mod Outcomes

@@ -1,6 +1,6 @@
 -- From concentration to mass (Appendix 4). Numbers are f64, and a product is rounded once, to the nearest f64 (IEEE 754).
 use Prim.Native.Nat.{ℕ, _*_, _/_}
-use mathlib.Core.Bool.{Bool, true, false, _&&_}
+use mathlib.Core.Bool.{Bool, false, _&&_}
 use lib.Dec.{leb}
 use lib.IntN.{pos}
 use lib.Ieee.{Float, nan, inf, fin, binary64, mul, le, lt, ofInt, round, up, down}
@@ -10,7 +10,6 @@ use Rattle.mass.specs.declared.Setting.{Setting}
 use Rattle.mass.specs.declared.Weighed.{Weighed}
 use Rattle.mass.specs.declared.Weighed.the-variants.{Mass, BadInput, TooLarge}
 use Rattle.base.specs.Limits.{co2Most, noxMost}
-use Rattle.base.specs.Refusal.{accepted, massInput, massTooLarge}
 use Rattle.base.specs.Words.{pick}
 
 -- a whole number as an f64
@@ -30,11 +29,17 @@ unfoldable pub aboveZeroTo : Float → Float → Bool
 aboveZeroTo x top = lt (number 0) x && le x top
 
 -- "Ppm runs 0 to 200,000, percent 0 to 20; a negative zero reading or flow counts as zero."
+abbrev pub ppmInRange : Float → Bool
+ppmInRange ppm = zeroTo ppm (number 200_000)
+
+abbrev pub percentInRange : Float → Bool
+percentInRange percent = zeroTo percent (number 20)
+
 unfoldable pub readingInRange : Reading → Bool
-readingInRange (WetPpm x) = zeroTo x (number 200_000)
-readingInRange (DryPpm x) = zeroTo x (number 200_000)
-readingInRange (WetPercent x) = zeroTo x (number 20)
-readingInRange (DryPercent x) = zeroTo x (number 20)
+readingInRange (WetPpm ppm) = ppmInRange ppm
+readingInRange (DryPpm ppm) = ppmInRange ppm
+readingInRange (WetPercent percent) = percentInRange percent
+readingInRange (DryPercent percent) = percentInRange percent
 
 -- "A setting holds u (above 0, at most 0.01), the dry-wet factor (above 0, at most 1) and exhaust flow in kg/s (0 to 1)."
 unfoldable pub settingInRange : Setting → Bool
@@ -45,23 +50,17 @@ abbrev pub times : Float → Float → Float
 times = mul binary64
 
 -- "In this order, one rounding each: percent times 10,000;"
-unfoldable pub inPpm : Reading → Float
-inPpm (WetPpm x) = x
-inPpm (DryPpm x) = x
-inPpm (WetPercent x) = times x (number 10_000)
-inPpm (DryPercent x) = times x (number 10_000)
-
-unfoldable pub isDry : Reading → Bool
-isDry (WetPpm x) = false
-isDry (DryPpm x) = true
-isDry (WetPercent x) = false
-isDry (DryPercent x) = true
+abbrev pub ppmOf : Float → Float
+ppmOf percent = times percent (number 10_000)
 
 -- "dry times the factor;"
 unfoldable pub wetPpm : Reading → Float → Float
-wetPpm reading factor = pick (isDry reading) (times (inPpm reading) factor) (inPpm reading)
+wetPpm (WetPpm ppm) factor = ppm
+wetPpm (DryPpm ppm) factor = times ppm factor
+wetPpm (WetPercent percent) factor = ppmOf percent
+wetPpm (DryPercent percent) factor = times (ppmOf percent) factor
 
--- "u times that; times flow; times 1,000 for CO2 in mg or 1,000,000 for NOx in µg."
+-- "u times that; times flow; times 1,000 for CO2 in mg or 1,000,000 for NOx in µg.": the scale is one of these
 unfoldable pub lastProduct : Float → Reading → Setting → Float
 lastProduct scale reading s = times (times (times (s .u) (wetPpm reading (s .factor))) (s .flow)) scale
 
@@ -79,22 +78,14 @@ massAnswer scale limit reading s =
     BadInput
 
 -- CO2 in mg, and NOx in µg
+abbrev pub mgInAGram : Float
+mgInAGram = number 1_000
+
 unfoldable pub co2Mass : Reading → Setting → Weighed
-co2Mass = massAnswer (number 1_000) co2Most
+co2Mass = massAnswer mgInAGram co2Most
+
+abbrev pub µgInAGram : Float
+µgInAGram = number 1_000_000
 
 unfoldable pub noxMass : Reading → Setting → Weighed
-noxMass = massAnswer (number 1_000_000) noxMost
-
--- the paper's number of refusal, place and mass for each case of the answer
-unfoldable pub refusalOf : Weighed → ℕ
-refusalOf (Mass m) = accepted
-refusalOf BadInput = massInput
-refusalOf TooLarge = massTooLarge
-
-unfoldable pub placeOf : Weighed → ℕ
-placeOf answer = 0
-
-unfoldable pub wholeMassOf : Weighed → ℕ
-wholeMassOf (Mass m) = m
-wholeMassOf BadInput = 0
-wholeMassOf TooLarge = 0
+noxMass = massAnswer µgInAGram noxMost

@@ -4,7 +4,7 @@
 
 ghost use mathlib.Core.Path.{_≡_};
 ghost use Rattle.mass.specs.Mass.{zeroTo, aboveZeroTo, readingInRange, settingInRange, wetPpm, lastProduct, wholePart, massAnswer, co2Mass, noxMass};
-ghost use Rattle.mass.specs.Bounded.{Bounded};
+ghost use Rattle.mass.specs.Inside.{Bounded};
 
 // What the gas bench read. Ppm runs 0 to 200,000, percent 0 to 20.
 pub enum Reading {

@@ -1,3 +1,4 @@
--- The sorted list, and the words in which the steps of a ranking are stated.
+-- The sorted list, and the words of its theorems.
 pub mod Sort
 pub mod Order
+pub mod Inside

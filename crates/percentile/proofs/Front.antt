@@ -11,7 +11,8 @@ use Rattle.base.specs.Words.{withFront}
 use Rattle.order.specs.Sort.{sort}
 use Rattle.order.specs.Order.{Ascending}
 use Rattle.order.proofs.Laws.{sort-length, sort-ascending}
-use Rattle.percentile.specs.Percentile.{fewest, qOf, qOrZero, Ranked}
+use Rattle.percentile.specs.Inside.{Ranked}
+use Rattle.percentile.specs.Percentile.{fewest, qOf, qOrZero}
 
 -- Q, or zero
 pub too-few : (products : List ℕ) → length products < fewest → qOrZero products ≡ 0

@@ -1,27 +1,42 @@
--- Q without its case: where r is 0 nothing is added. Assumes nothing.
-use Prim.Native.Nat.{ℕ, _+_, _-_, _*_}
-use mathlib.Core.Path.{_≡_, refl, ap}
-use mathlib.Core.Bool.{Bool, true, false}
+-- Q of ranked values: it is not below 0, and in natural numbers 100x(j) and r times the gap above it. Assumes nothing.
+use Prim.Native.Nat.{ℕ, _+_, _-_, _*_, _/_, _%_, _≤_}
+use mathlib.Core.Path.{_≡_, refl, sym, _∙_, ap}
 use mathlib.Core.List.{List}
-use native.Mathlib.Nat.{zero-mul}
 use native.Mathlib.Omega.{arith}
-use borrow.Author.Tests.{eqb-true}
-use lib.Dec.{eqb}
+use lib.IntN.{pos, natAbs, _+ℤ_, _-ℤ_, _*ℤ_}
 use lib.ListN.{length, getD}
-use Rattle.base.specs.Words.{pick}
-use Rattle.percentile.specs.Percentile.{x, jOf, rOf, interpolated, qOf}
+use Rattle.base.proofs.Integers.{sub-up, pos-minus}
+use Rattle.percentile.specs.Percentile.{x, interpolated, qOf}
+use Rattle.percentile.specs.Inside.{Ranked}
 
-module _ (ranked : List ℕ) (j r : ℕ) where
+-- j and r
+abbrev pub jOf : ℕ → ℕ
+jOf m = 95 * m / 100
+
+abbrev pub rOf : ℕ → ℕ
+rOf m = 95 * m % 100
+
+-- a sum with a difference that is not below 0
+between : (a b r : ℕ) → a ≤ b → pos (100 * a) +ℤ pos r *ℤ (pos b -ℤ pos a) ≡ pos (100 * a + r * (b - a))
+between a b r h = ap (λ d. pos (100 * a) +ℤ pos r *ℤ d) (pos-minus b a b a refl ∙ sub-up b a h)
+
+module _ (ranked : List ℕ) (is : Ranked ranked) where
+  abbrev j : ℕ
+  j = jOf (length ranked)
+
   next : x ranked (j + 1) ≡ getD ranked j 0
   next = let same : j + 1 - 1 ≡ j = omega arith in ap (λ k. getD ranked k 0) same
 
-  added : interpolated ranked j r ≡ 100 * getD ranked (j - 1) 0 + r * (getD ranked j 0 - getD ranked (j - 1) 0)
-  added = go (eqb r 0) refl
-    where
-      go : (t : Bool) → eqb r 0 ≡ t → pick t (100 * x ranked j) (100 * x ranked j + r * (x ranked (j + 1) - x ranked j)) ≡ 100 * getD ranked (j - 1) 0 + r * (getD ranked j 0 - getD ranked (j - 1) 0)
-      go true q = rw (eqb-true r 0 q, zero-mul) (omega arith)
-      go false q = rw next refl
+  -- it is not below 0
+  pub whole : interpolated ranked ≡ pos (100 * getD ranked (j - 1) 0 + rOf (length ranked) * (getD ranked j 0 - getD ranked (j - 1) 0))
+  whole =
+      let up = is .ascending (j - 1) j (omega arith) (omega (arith, is .enough)) in
+      ap (λ next. pos (100 * x ranked j) +ℤ pos (rOf (length ranked)) *ℤ (pos next -ℤ pos (x ranked j))) next ∙ between (getD ranked (j - 1) 0) (getD ranked j 0) (rOf (length ranked)) up
 
-pub q-is : (ranked : List ℕ) → qOf ranked ≡ 100 * getD ranked (jOf (length ranked) - 1) 0 + rOf (length ranked) * (getD ranked (jOf (length ranked)) 0 - getD ranked (jOf (length ranked) - 1) 0)
-unfolding qOf
-q-is ranked = added ranked (jOf (length ranked)) (rOf (length ranked))
+  pub q-is : qOf ranked ≡ 100 * getD ranked (j - 1) 0 + rOf (length ranked) * (getD ranked j 0 - getD ranked (j - 1) 0)
+  unfolding qOf
+  q-is = ap natAbs whole
+
+  -- so Q is the number of the paper's formula
+  pub never-negative : pos (qOf ranked) ≡ interpolated ranked
+  never-negative = ap pos q-is ∙ sym whole

@@ -16,9 +16,8 @@ use Rattle.base.proofs.InFront.{in-front}
 use Rattle.order.specs.Sort.{sort}
 use Rattle.order.proofs.Laws.{sort-length}
 use Rattle.base.specs.declared.Fault.{Fault}
-use Rattle.percentile.specs.declared.Answer.{Answer}
 use Rattle.percentile.specs.declared.Answer.the-variants.{Q, Refused}
-use Rattle.percentile.specs.Percentile.{fewest, qOf, firstBadProduct, faultOf, answerOf, laneOf, refusalOf, placeOf, valueOf}
+use Rattle.percentile.specs.Percentile.{fewest, qOf, firstBadProduct, faultOf, answerOf, laneOf, faultIn}
 use Rattle.percentile.specs.Outcomes.{Outcome, too-many, too-few, too-short, out-of-range, fine}
 use Rattle.percentile.proofs.Refusals.{accepted-facts, lane-accepted}
 
@@ -58,11 +57,11 @@ module _ (values : List ℕ) (places : ℕ) where
   refused-exactly f = (λ e. rw e at outcome, only)
 
   -- the answer's number and place are those of the chain of tests
-  pub answer-fault : fault (refusalOf (answerOf values places)) (placeOf (answerOf values places)) ≡ faultOf values places
-  unfolding answerOf refusalOf placeOf
+  pub answer-fault : faultIn (answerOf values places) ≡ faultOf values places
+  unfolding answerOf faultIn
   answer-fault = go (faultOf values places) outcome
     where
-      go : (f : Fault) → Outcome values places f → fault (refusalOf (pick (eqb (f .number) 0) (Q (qOf (sort values))) (Refused f))) (placeOf (pick (eqb (f .number) 0) (Q (qOf (sort values))) (Refused f))) ≡ f
+      go : (f : Fault) → Outcome values places f → faultIn (pick (eqb (f .number) 0) (Q (qOf (sort values))) (Refused f)) ≡ f
       go _ (too-many h) = refl
       go _ (too-few few h) = refl
       go _ (too-short few some h) = refl
@@ -74,9 +73,3 @@ pub accepted-writes : (values lane : List ℕ) → faultOf values (length lane) 
 accepted-writes values lane z =
     let facts = accepted-facts values (length lane) z in
     rw (lane-accepted values lane z) (in-front (sort values) lane (length values) (sort-length values) (facts .room))
-
--- a refusal has no Q
-pub refused-no-q : (answer : Answer) → (refusalOf answer ≡ 0 → ⊥) → valueOf answer ≡ 0
-unfolding refusalOf valueOf
-refused-no-q (Q q) h = absurd (h refl)
-refused-no-q (Refused f) h = refl

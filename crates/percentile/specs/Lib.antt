@@ -1,3 +1,4 @@
 -- The definitions of the percentile.
 pub mod Percentile
 pub mod Outcomes
+pub mod Inside

@@ -1,15 +1,14 @@
 -- The percentile Q of products (Appendix 7a).
-use Prim.Native.Nat.{ℕ, _+_, _-_, _*_, _/_, _%_, _≤_}
+use Prim.Native.Nat.{ℕ, _+_, _-_, _*_, _/_, _%_}
 use mathlib.Core.Bool.{Bool}
 use mathlib.Core.List.{List}
 use lib.Dec.{leb, ltb, eqb}
+use lib.IntN.{ℤ, pos, natAbs, _+ℤ_, _-ℤ_, _*ℤ_}
 use lib.ListN.{length, getD}
-use Rattle.base.specs.Limits.{tripLimit}
 use Rattle.base.specs.Refusal.{accepted, tooManyValues, outOfRange, laneTooShort, tooFewValues, fault}
 use Rattle.base.specs.Second.{tooMany}
 use Rattle.base.specs.Words.{pick, firstBad, withFront}
 use Rattle.order.specs.Sort.{sort}
-use Rattle.order.specs.Order.{Ascending}
 use Rattle.base.specs.declared.Fault.{Fault}
 use Rattle.percentile.specs.declared.Answer.{Answer}
 use Rattle.percentile.specs.declared.Answer.the-variants.{Q, Refused}
@@ -18,19 +17,17 @@ use Rattle.percentile.specs.declared.Answer.the-variants.{Q, Refused}
 abbrev pub x : List ℕ → ℕ → ℕ
 x ranked k = getD ranked (k - 1) 0
 
--- "with j and r the quotient and remainder of 95M by 100"
-abbrev pub jOf : ℕ → ℕ
-jOf m = 95 * m / 100
+-- "with j and r the quotient and remainder of 95M by 100, Q = 100x(j) + r(x(j+1) - x(j)), or 100x(j) where r is 0" (it adds 0 then)
+abbrev pub interpolated : List ℕ → ℤ
+interpolated ranked =
+    let part = 95 * length ranked in
+    let j = part / 100 in
+    let r = part % 100 in
+    pos (100 * x ranked j) +ℤ pos r *ℤ (pos (x ranked (j + 1)) -ℤ pos (x ranked j))
 
-abbrev pub rOf : ℕ → ℕ
-rOf m = 95 * m % 100
-
--- "Q = 100x(j) + r(x(j+1) - x(j)), or 100x(j) where r is 0"
-abbrev pub interpolated : List ℕ → ℕ → ℕ → ℕ
-interpolated ranked j r = pick (eqb r 0) (100 * x ranked j) (100 * x ranked j + r * (x ranked (j + 1) - x ranked j))
-
+-- Q as a whole number: of ranked values it is never below 0, so it is its own size
 unfoldable pub qOf : List ℕ → ℕ
-qOf ranked = interpolated ranked (jOf (length ranked)) (rOf (length ranked))
+qOf ranked = natAbs (interpolated ranked)
 
 -- "percentile asked of fewer than 100 values"
 abbrev pub fewest : ℕ
@@ -64,21 +61,7 @@ answerOf values places = pick (eqb (faultOf values places .number) accepted) (Q 
 unfoldable pub laneOf : List ℕ → List ℕ → List ℕ
 laneOf values lane = pick (eqb (faultOf values (length lane) .number) accepted) (withFront (sort values) lane) lane
 
--- the paper's number of refusal, place and Q for each case of the answer
-unfoldable pub refusalOf : Answer → ℕ
-refusalOf (Q q) = accepted
-refusalOf (Refused fault) = fault .number
-
-unfoldable pub placeOf : Answer → ℕ
-placeOf (Q q) = 0
-placeOf (Refused fault) = fault .place
-
-unfoldable pub valueOf : Answer → ℕ
-valueOf (Q q) = q
-valueOf (Refused fault) = 0
-
--- what Q is asked of: ranked products, enough of them, and no more than a trip's
-pub record Ranked (ranked : List ℕ) : Type 0 where
-  pub enough : fewest ≤ length ranked
-  pub few : length ranked ≤ tripLimit
-  pub ascending : Ascending ranked
+-- the number of refusal and the place of an answer
+unfoldable pub faultIn : Answer → Fault
+faultIn (Refused given) = given
+faultIn (Q q) = fault accepted 0

@@ -8,7 +8,8 @@ ghost use lib.ListN.{length, take, drop};
 ghost use Rattle.base.specs.Limits.{tripLimit};
 ghost use Rattle.base.specs.Words.{withFront};
 ghost use Rattle.order.specs.Sort.{sort};
-ghost use Rattle.percentile.specs.Percentile.{Ranked, qOf, qOrZero, firstBadProduct, faultOf, answerOf, laneOf};
+ghost use Rattle.percentile.specs.Inside.{Ranked};
+ghost use Rattle.percentile.specs.Percentile.{qOf, qOrZero, firstBadProduct, faultOf, answerOf, laneOf};
 use base::Fault;
 
 // The answer of the percentile call.
@@ -18,7 +19,7 @@ pub enum Answer {
 }
 
 // The fewest values that a percentile is asked of.
-const FEWEST: usize = 100;
+pub const FEWEST: usize = 100;
 
 // A product, from 0.
 const PRODUCT: u32 = 625_000_000;
@@ -97,14 +98,15 @@ fn copy(values: &[u32], lane: &mut [u32])
     }
 }
 
-// Q of ranked products.
+// Q of ranked products: j and r are the quotient and remainder of 95 M by 100.
 fn q_of(ranked: &[u32]) -> u64
     requires { ⌜ Ranked (now ranked) ⌝ }
     ensures { λ r. ⌜ r ≡ qOf (now (ranked .entry)) ⌝ }
 {
     let m = ranked.len();
-    let j = 95 * m / 100;
-    let r = (95 * m % 100) as u64;
+    let part = 95 * m;
+    let j = part / 100;
+    let r = (part % 100) as u64;
     let low = ranked[j - 1] as u64;
     let high = ranked[j] as u64;
     100 * low + r * (high - low)

@@ -5,11 +5,11 @@ use mathlib.Core.List.{List, _++_, flatten}
 use mathlib.Core.Logic.{_↔_}
 use lib.ListN.{length}
 use Rattle.item.specs.Format.{Bytes}
-use Rattle.stream.specs.declared.Row.{Row}
+use Rattle.second.specs.declared.Row.{Row}
 use Rattle.stream.specs.Reading.{readOf, laneAfter}
 use Rattle.reader.specs.declared.Reader.{Reader}
-use Rattle.reader.specs.Blocks.{started, readerAfter, laneWith, fedAll, laneAll}
-use Rattle.reader.specs.Made.{fedOf, endOf}
+use Rattle.reader.specs.Reader.{carryPlaces, started}
+use Rattle.reader.specs.Blocks.{readerAfter, laneWith, fedAll, laneAll, fedOf, endOf}
 use Rattle.reader.specs.Reached.{Reached}
 use Rattle.reader.proofs.Feeding as feeding
 use Rattle.reader.proofs.Whole as whole
@@ -37,8 +37,8 @@ reader-in-two room r a b = feeding.fed-in-two room r a b
 pub lane-in-two {ℓ} : {A : Type ℓ} (value : Row → A) (room : ℕ) (r : Reader) (a b : List ℕ) (lane : List A) → laneWith value room (readerAfter room r a) b (laneWith value room r a lane) ≡ laneWith value room r (a ++ b) lane
 lane-in-two = feeding.lane-in-two
 
--- refusal 13 is given exactly for a reader to which no stream leads; a reader holds an array of 21 bytes
-module _ (r : Reader) (places : length (r .held) ≡ 21) (bytes : Bytes (r .held)) where
+-- refusal 13 is given exactly for a reader to which no stream leads; a reader holds an array of `carryPlaces` bytes
+module _ (r : Reader) (places : length (r .held) ≡ carryPlaces) (bytes : Bytes (r .held)) where
   pub feed-refused : (room : ℕ) (block : List ℕ) → (fedOf room r block .refusal ≡ 13) ↔ (Reached r → ⊥)
   feed-refused = reached.feed-refused r places bytes
 
@@ -48,7 +48,7 @@ module _ (r : Reader) (places : length (r .held) ≡ 21) (bytes : Bytes (r .held
 -- of the calls: what a contract allows has number 13 exactly so
 abbrev NeverMade : {L : Type 0} {In Out Exit : L → Type 0} → ((κs : L) → In κs → Out κs → Exit κs → Type 0) → ((κs : L) → In κs → Reader) → ((κs : L) → Out κs → ℕ) → Type 0
 NeverMade {L} {In} {Out} {Exit} allows reader number =
-    (κs : L) (inputs : In κs) (x : Out κs) (e : Exit κs) → allows κs inputs x e → length (reader κs inputs .held) ≡ 21 → Bytes (reader κs inputs .held) → (number κs x ≡ 13) ↔ (Reached (reader κs inputs) → ⊥)
+    (κs : L) (inputs : In κs) (x : Out κs) (e : Exit κs) → allows κs inputs x e → length (reader κs inputs .held) ≡ carryPlaces → Bytes (reader κs inputs .held) → (number κs x ≡ 13) ↔ (Reached (reader κs inputs) → ⊥)
 
 pub feed-never-made : NeverMade feed-call.Post (λ κs a. a .0) (λ κs x. x .refusal)
 feed-never-made κs a x e p places bytes = rw (p .0) (feed-refused (a .0) places bytes _ (a .1 .0 .now))

@@ -3,20 +3,20 @@ use Prim.Native.Nat.{ℕ}
 use mathlib.Core.Path.{_≡_, refl, sym, _∙_}
 use mathlib.Core.List.{List}
 use lib.ListN.{length}
+use package.contract.Lifetimes.{Lfts}
+use denote.Triple.Clauses.{AtExit}
 use borrow.Fn.Kinds as contract
-use Rattle.base.specs.declared.Plan.{Plan}
-use Rattle.second.specs.Lanes.{Lanes, lanesOf}
+use Rattle.second.specs.Lanes.{Lanes, lanesOf, roomIn}
 use Rattle.mass.specs.Mass.{co2Mass, noxMass}
 use Rattle.mass.proofs.co2_mass.Reads as co2-mass-call
 use Rattle.mass.proofs.nox_mass.Reads as nox-mass-call
 use Rattle.item.specs.Item.{itemOf}
 use Rattle.item.proofs.read_item.Reads as read-item-call
-use Rattle.stream.specs.Reading.{roomOf, readOf, laneAfter}
+use Rattle.stream.specs.Reading.{readOf, streamLeft}
 use Rattle.stream.proofs.read_stream.Kinds as stream-kinds
 use Rattle.stream.proofs.read_stream.Reads as read-stream-call
-use Rattle.reader.specs.declared.Reader.{Reader}
-use Rattle.reader.specs.Blocks.{started}
-use Rattle.reader.specs.Made.{fedOf, laneFed, endOf}
+use Rattle.reader.specs.Reader.{started}
+use Rattle.reader.specs.Blocks.{fedOf, lanesFed, endOf}
 use Rattle.reader.proofs.start.Kinds as start-kinds
 use Rattle.reader.proofs.start.Reads as start-call
 use Rattle.blocks.proofs.feed.Kinds as feed-kinds
@@ -27,13 +27,12 @@ use Rattle.sweep.specs.Sweep.{sweepAnswer, sweepEnds}
 use Rattle.sweep.proofs.sweep.Kinds as sweep-kinds
 use Rattle.sweep.proofs.sweep.Reads as sweep-call
 use Rattle.acceleration.specs.D.{accelerationOf}
+use Rattle.acceleration.proofs.d_of_second.Kinds as d-kinds
 use Rattle.acceleration.proofs.d_of_second.Reads as d-of-second-call
 use Rattle.percentile.specs.Percentile as percentiles
 use Rattle.percentile.proofs.percentile.Reads as percentile-call
-use Rattle.trip.specs.declared.Rooms.{Rooms}
-use Rattle.trip.specs.Refusals.{roomsOf}
 use Rattle.trip.specs.Trip.{answerOf}
-use Rattle.trip.specs.Lent.{keptSpeedsLane, keptCo2Lane, endsLane, ranksLane}
+use Rattle.trip.specs.Lent.{Lent, lentOf, roomsIn, lentLeft}
 use Rattle.trip.proofs.evaluate.Kinds as trip-kinds
 use Rattle.trip.proofs.evaluate.Reads as evaluate-call
 use Rattle.verdict.specs.Verdict.{hasAny}
@@ -42,9 +41,9 @@ use Rattle.verdict.proofs.has_reason.Reads as has-reason-call
 use Rattle.report.specs.Lines.{judgedText, refusalText, lengthWritten, bufferWritten}
 use Rattle.report.proofs.report.Reads as report-call
 use Rattle.report.proofs.report_refusal.Reads as report-refusal-call
-use Rattle.printed.specs.Printed.{printedText, keptSpeedsLeft, keptCo2Left, endsLeft, ranksLeft}
+use Rattle.printed.specs.Printed.{printedText, lentAfter}
+use Rattle.printed.proofs.write_text.Kinds as print-kinds
 use Rattle.printed.proofs.write_text.Reads as write-text-call
-use Rattle.stream.specs.declared.ReadAnswer.{ReadAnswer}
 
 -- `Pre` and `Post` of a call are its contract, read by the toolchain from `src/`: what it asks of the inputs, and which result
 -- and which parameters at exit it allows for them. A parameter is named by its place in the parameter list: `.0` the first,
@@ -75,44 +74,33 @@ nox-mass = record { takes-all = λ κs a. tt; means = λ κs a x e p. (p, refl) 
 pub read-item : Gives read-item-call.Pre read-item-call.Post (λ κs a. itemOf (a .0 .now))
 read-item = record { takes-all = λ κs a. tt; means = λ κs a x e p. (p, refl) }
 
-pub d-of-second : Gives d-of-second-call.Pre d-of-second-call.Post (λ κs a. accelerationOf (lanesOf (a .0 .now) (a .1 .0 .now) (a .1 .1 .0 .now) (a .1 .1 .1 .0 .now) (a .1 .1 .1 .1 .0 .now)) (a .1 .1 .1 .1 .1 .0))
+-- D of a second: the five lanes of a trip, and the index
+abbrev pub lanesBefore : (κs : Lfts 5) → contract.Dens κs d-kinds.ps → Lanes
+lanesBefore κs a = lanesOf (a .0 .now) (a .1 .0 .now) (a .1 .1 .0 .now) (a .1 .1 .1 .0 .now) (a .1 .1 .1 .1 .0 .now)
+
+abbrev pub indexBehind : (κs : Lfts 5) → contract.Dens κs d-kinds.ps → ℕ
+indexBehind κs a = a .1 .1 .1 .1 .1 .0
+
+pub d-of-second : Gives d-of-second-call.Pre d-of-second-call.Post (λ κs a. accelerationOf (lanesBefore κs a) (indexBehind κs a))
 d-of-second = record { takes-all = λ κs a. tt; means = λ κs a x e p. (p, refl) }
 
--- ---- the stream
--- five lanes that are equal lane by lane
-pub five-lanes : {x y : Lanes} → (x .states ≡ y .states) × ((x .speeds ≡ y .speeds) × ((x .altitudes ≡ y .altitudes) × ((x .co2 ≡ y .co2) × (x .nox ≡ y .nox)))) → x ≡ y
-five-lanes same i =
-    record { states = same .0 i; speeds = same .1 .0 i; altitudes = same .1 .1 .0 i; co2 = same .1 .1 .1 .0 i; nox = same .1 .1 .1 .1 i }
+-- ---- the stream: its bytes, and the five lanes
+abbrev pub lanesToFill : (κs : Lfts 6) → contract.Dens κs stream-kinds.ps → Lanes
+lanesToFill κs a = lanesOf (a .1 .0 .now) (a .1 .1 .0 .now) (a .1 .1 .1 .0 .now) (a .1 .1 .1 .1 .0 .now) (a .1 .1 .1 .1 .1 .0 .now)
 
--- the seconds for which every lane has a place
-abbrev pub roomIn : Lanes → ℕ
-roomIn lent = roomOf (lent .states) (lent .speeds) (lent .altitudes) (lent .co2) (lent .nox)
+abbrev pub lanesFilled : (κs : Lfts 6) → AtExit (contract.endedOf 6 stream-kinds.ps stream-kinds.r) κs → Lanes
+lanesFilled κs e = lanesOf (e .1 .0 .now) (e .1 .1 .0 .now) (e .1 .1 .1 .0 .now) (e .1 .1 .1 .1 .0 .now) (e .1 .1 .1 .1 .1 .0 .now)
 
--- the five lanes that reading a stream leaves
-abbrev pub streamLeft : List ℕ → Lanes → Lanes
-streamLeft stream lent =
-    record {
-      states = laneAfter (λ s. s .state) (roomIn lent) stream (lent .states);
-      speeds = laneAfter (λ s. s .speed) (roomIn lent) stream (lent .speeds);
-      altitudes = laneAfter (λ s. s .altitude) (roomIn lent) stream (lent .altitudes);
-      co2 = laneAfter (λ s. s .co2) (roomIn lent) stream (lent .co2);
-      nox = laneAfter (λ s. s .nox) (roomIn lent) stream (lent .nox);
-    }
-
--- a call that reads a whole stream, the first parameter, into the next five
+-- a call that reads a whole stream
 abbrev pub ReadsStream : contract.In 6 stream-kinds.ps → contract.Out 6 stream-kinds.ps stream-kinds.r → Type 0
 ReadsStream asks allows =
     Answers Lanes asks allows
-    (λ κs a. readOf (roomIn (lanesOf (a .1 .0 .now) (a .1 .1 .0 .now) (a .1 .1 .1 .0 .now) (a .1 .1 .1 .1 .0 .now) (a .1 .1 .1 .1 .1 .0 .now))) (a .0 .now))
-    (λ κs e. lanesOf (e .1 .0 .now) (e .1 .1 .0 .now) (e .1 .1 .1 .0 .now) (e .1 .1 .1 .1 .0 .now) (e .1 .1 .1 .1 .1 .0 .now))
-    (λ κs a. streamLeft (a .0 .now) (lanesOf (a .1 .0 .now) (a .1 .1 .0 .now) (a .1 .1 .1 .0 .now) (a .1 .1 .1 .1 .0 .now) (a .1 .1 .1 .1 .1 .0 .now)))
+    (λ κs a. readOf (roomIn (lanesToFill κs a)) (a .0 .now))
+    lanesFilled
+    (λ κs a. streamLeft (a .0 .now) (lanesToFill κs a))
 
 pub read-stream : ReadsStream read-stream-call.Pre read-stream-call.Post
-read-stream =
-    record {
-      takes-all = λ κs a. tt;
-      means = λ κs a x e p. (p .0, five-lanes (p .1));
-    }
+read-stream = record { takes-all = λ κs a. tt; means = λ κs a x e p. p }
 
 -- ---- the stream in blocks
 abbrev pub Starts : contract.In 0 start-kinds.ps → contract.Out 0 start-kinds.ps start-kinds.r → Type 0
@@ -121,31 +109,23 @@ Starts asks allows = Gives asks allows (λ κs a. started)
 pub start : Starts start-call.Pre start-call.Post
 start = record { takes-all = λ κs a. tt; means = λ κs a x e p. (p, refl) }
 
--- the lanes after a block
-abbrev pub blockLeft : Reader → List ℕ → Lanes → Lanes
-blockLeft reader block lent =
-    record {
-      states = laneFed (λ s. s .state) (roomIn lent) reader block (lent .states);
-      speeds = laneFed (λ s. s .speed) (roomIn lent) reader block (lent .speeds);
-      altitudes = laneFed (λ s. s .altitude) (roomIn lent) reader block (lent .altitudes);
-      co2 = laneFed (λ s. s .co2) (roomIn lent) reader block (lent .co2);
-      nox = laneFed (λ s. s .nox) (roomIn lent) reader block (lent .nox);
-    }
+-- a reader, a block, and the five lanes
+abbrev pub lanesToFeed : (κs : Lfts 6) → contract.Dens κs feed-kinds.ps → Lanes
+lanesToFeed κs a = lanesOf (a .1 .1 .0 .now) (a .1 .1 .1 .0 .now) (a .1 .1 .1 .1 .0 .now) (a .1 .1 .1 .1 .1 .0 .now) (a .1 .1 .1 .1 .1 .1 .0 .now)
 
--- a call that feeds a block, the second parameter, to a reader, the first, and to the five lanes after them
+abbrev pub lanesAfterFeeding : (κs : Lfts 6) → AtExit (contract.endedOf 6 feed-kinds.ps feed-kinds.r) κs → Lanes
+lanesAfterFeeding κs e = lanesOf (e .1 .1 .0 .now) (e .1 .1 .1 .0 .now) (e .1 .1 .1 .1 .0 .now) (e .1 .1 .1 .1 .1 .0 .now) (e .1 .1 .1 .1 .1 .1 .0 .now)
+
+-- a call that feeds the block to the reader and the lanes
 abbrev pub Feeds : contract.In 6 feed-kinds.ps → contract.Out 6 feed-kinds.ps feed-kinds.r → Type 0
 Feeds asks allows =
     Answers Lanes asks allows
-    (λ κs a. fedOf (roomIn (lanesOf (a .1 .1 .0 .now) (a .1 .1 .1 .0 .now) (a .1 .1 .1 .1 .0 .now) (a .1 .1 .1 .1 .1 .0 .now) (a .1 .1 .1 .1 .1 .1 .0 .now))) (a .0) (a .1 .0 .now))
-    (λ κs e. lanesOf (e .1 .1 .0 .now) (e .1 .1 .1 .0 .now) (e .1 .1 .1 .1 .0 .now) (e .1 .1 .1 .1 .1 .0 .now) (e .1 .1 .1 .1 .1 .1 .0 .now))
-    (λ κs a. blockLeft (a .0) (a .1 .0 .now) (lanesOf (a .1 .1 .0 .now) (a .1 .1 .1 .0 .now) (a .1 .1 .1 .1 .0 .now) (a .1 .1 .1 .1 .1 .0 .now) (a .1 .1 .1 .1 .1 .1 .0 .now)))
+    (λ κs a. fedOf (roomIn (lanesToFeed κs a)) (a .0) (a .1 .0 .now))
+    lanesAfterFeeding
+    (λ κs a. lanesFed (a .0) (a .1 .0 .now) (lanesToFeed κs a))
 
 pub feed : Feeds feed-call.Pre feed-call.Post
-feed =
-    record {
-      takes-all = λ κs a. tt;
-      means = λ κs a x e p. (p .0, five-lanes (p .1));
-    }
+feed = record { takes-all = λ κs a. tt; means = λ κs a x e p. p }
 
 abbrev pub Ends : contract.In 0 end-kinds.ps → contract.Out 0 end-kinds.ps end-kinds.r → Type 0
 Ends asks allows = Gives asks allows (λ κs a. endOf (a .0))
@@ -168,43 +148,26 @@ sweep = record { takes-all = λ κs a. tt; means = λ κs a x e p. p }
 pub percentile : Answers (List ℕ) percentile-call.Pre percentile-call.Post (λ κs a. percentiles.answerOf (a .0 .now) (length (a .1 .0 .now))) (λ κs e. e .1 .0 .now) (λ κs a. percentiles.laneOf (a .0 .now) (a .1 .0 .now))
 percentile = record { takes-all = λ κs a. tt; means = λ κs a x e p. p }
 
--- ---- the trip
--- the four lanes that an evaluation is lent, and those that it leaves
-pub record TripLanes : Type 0 where
-  pub kept-speeds : List ℕ
-  pub kept-co2 : List ℕ
-  pub ends : List ℕ
-  pub ranks : List ℕ
+-- ---- the trip: the plan, the five lanes, and the four lent lanes
+abbrev pub tripIn : (κs : Lfts 9) → contract.Dens κs trip-kinds.ps → Lanes
+tripIn κs a = lanesOf (a .1 .0 .now) (a .1 .1 .0 .now) (a .1 .1 .1 .0 .now) (a .1 .1 .1 .1 .0 .now) (a .1 .1 .1 .1 .1 .0 .now)
 
-pub four-lanes : {x y : TripLanes} → (x .kept-speeds ≡ y .kept-speeds) × ((x .kept-co2 ≡ y .kept-co2) × ((x .ends ≡ y .ends) × (x .ranks ≡ y .ranks))) → x ≡ y
-four-lanes same i = record { kept-speeds = same .0 i; kept-co2 = same .1 .0 i; ends = same .1 .1 .0 i; ranks = same .1 .1 .1 i }
+abbrev pub lentIn : (κs : Lfts 9) → contract.Dens κs trip-kinds.ps → Lent
+lentIn κs a = let b = a .1 .1 .1 .1 .1 .1 in lentOf (b .0 .now) (b .1 .0 .now) (b .1 .1 .0 .now) (b .1 .1 .1 .0 .now)
 
-abbrev pub roomsIn : TripLanes → Rooms
-roomsIn lent = roomsOf (lent .kept-speeds) (lent .kept-co2) (lent .ends) (lent .ranks)
+abbrev pub lentAtExit : (κs : Lfts 9) → AtExit (contract.endedOf 9 trip-kinds.ps trip-kinds.r) κs → Lent
+lentAtExit κs e = let b = e .1 .1 .1 .1 .1 .1 in lentOf (b .0 .now) (b .1 .0 .now) (b .1 .1 .0 .now) (b .1 .1 .1 .0 .now)
 
-abbrev pub tripLeft : Plan → Lanes → TripLanes → TripLanes
-tripLeft plan trip lent =
-    record {
-      kept-speeds = keptSpeedsLane plan trip (roomsIn lent) (lent .kept-speeds);
-      kept-co2 = keptCo2Lane plan trip (roomsIn lent) (lent .kept-co2);
-      ends = endsLane plan trip (roomsIn lent) (lent .ends);
-      ranks = ranksLane plan trip (roomsIn lent) (lent .ranks);
-    }
-
--- a call that evaluates the trip of a plan, the first parameter, and five lanes, the next, and is lent the four lanes after them
+-- a call that evaluates a trip
 abbrev pub Evaluates : contract.In 9 trip-kinds.ps → contract.Out 9 trip-kinds.ps trip-kinds.r → Type 0
 Evaluates asks allows =
-    Answers TripLanes asks allows
-    (λ κs a. answerOf (a .0) (lanesOf (a .1 .0 .now) (a .1 .1 .0 .now) (a .1 .1 .1 .0 .now) (a .1 .1 .1 .1 .0 .now) (a .1 .1 .1 .1 .1 .0 .now)) (roomsOf (a .1 .1 .1 .1 .1 .1 .0 .now) (a .1 .1 .1 .1 .1 .1 .1 .0 .now) (a .1 .1 .1 .1 .1 .1 .1 .1 .0 .now) (a .1 .1 .1 .1 .1 .1 .1 .1 .1 .0 .now)))
-    (λ κs e. record { kept-speeds = e .1 .1 .1 .1 .1 .1 .0 .now; kept-co2 = e .1 .1 .1 .1 .1 .1 .1 .0 .now; ends = e .1 .1 .1 .1 .1 .1 .1 .1 .0 .now; ranks = e .1 .1 .1 .1 .1 .1 .1 .1 .1 .0 .now })
-    (λ κs a. tripLeft (a .0) (lanesOf (a .1 .0 .now) (a .1 .1 .0 .now) (a .1 .1 .1 .0 .now) (a .1 .1 .1 .1 .0 .now) (a .1 .1 .1 .1 .1 .0 .now)) (record { kept-speeds = a .1 .1 .1 .1 .1 .1 .0 .now; kept-co2 = a .1 .1 .1 .1 .1 .1 .1 .0 .now; ends = a .1 .1 .1 .1 .1 .1 .1 .1 .0 .now; ranks = a .1 .1 .1 .1 .1 .1 .1 .1 .1 .0 .now }))
+    Answers Lent asks allows
+    (λ κs a. answerOf (a .0) (tripIn κs a) (roomsIn (lentIn κs a)))
+    lentAtExit
+    (λ κs a. lentLeft (a .0) (tripIn κs a) (lentIn κs a))
 
 pub evaluate : Evaluates evaluate-call.Pre evaluate-call.Post
-evaluate =
-    record {
-      takes-all = λ κs a. tt;
-      means = λ κs a x e p. (p .0, four-lanes (p .1));
-    }
+evaluate = record { takes-all = λ κs a. tt; means = λ κs a x e p. p }
 
 -- ---- the reasons of a verdict: a verdict and a mask
 abbrev pub TestsReason : contract.In 0 reason-kinds.ps → contract.Out 0 reason-kinds.ps reason-kinds.r → Type 0
@@ -220,30 +183,26 @@ report = record { takes-all = λ κs a. tt; means = λ κs a x e p. p }
 pub report-refusal : Answers (List ℕ) report-refusal-call.Pre report-refusal-call.Post (λ κs a. lengthWritten (refusalText (a .0) (a .1 .0)) (a .1 .1 .0 .now)) (λ κs e. e .1 .1 .0 .now) (λ κs a. bufferWritten (refusalText (a .0) (a .1 .0)) (a .1 .1 .0 .now))
 report-refusal = record { takes-all = λ κs a. tt; means = λ κs a x e p. p }
 
--- what is printed for a stream that was read into five lanes, the second to the sixth parameter: the four lanes lent to its evaluation
--- and the buffer are left so
-pub record PrintLanes : Type 0 where
-  pub trip : TripLanes
-  pub buffer : List ℕ
+-- what is printed for a stream that was read: the reading's answer, the five lanes, the four lent lanes, and the buffer
+abbrev pub lanesRead : (κs : Lfts 10) → contract.Dens κs print-kinds.ps → Lanes
+lanesRead κs a = lanesOf (a .1 .0 .now) (a .1 .1 .0 .now) (a .1 .1 .1 .0 .now) (a .1 .1 .1 .1 .0 .now) (a .1 .1 .1 .1 .1 .0 .now)
 
-abbrev pub printLeft : ReadAnswer → Lanes → TripLanes → List ℕ → PrintLanes
-printLeft read lanes lent buffer =
-    record {
-      trip = record {
-        kept-speeds = keptSpeedsLeft read lanes (roomsIn lent) (lent .kept-speeds);
-        kept-co2 = keptCo2Left read lanes (roomsIn lent) (lent .kept-co2);
-        ends = endsLeft read lanes (roomsIn lent) (lent .ends);
-        ranks = ranksLeft read lanes (roomsIn lent) (lent .ranks);
-      };
-      buffer = bufferWritten (printedText read lanes (roomsIn lent)) buffer;
-    }
+abbrev pub lentToPrint : (κs : Lfts 10) → contract.Dens κs print-kinds.ps → Lent
+lentToPrint κs a = let b = a .1 .1 .1 .1 .1 .1 in lentOf (b .0 .now) (b .1 .0 .now) (b .1 .1 .0 .now) (b .1 .1 .1 .0 .now)
 
-pub write-text : Answers PrintLanes write-text-call.Pre write-text-call.Post
-    (λ κs a. lengthWritten (printedText (a .0) (lanesOf (a .1 .0 .now) (a .1 .1 .0 .now) (a .1 .1 .1 .0 .now) (a .1 .1 .1 .1 .0 .now) (a .1 .1 .1 .1 .1 .0 .now)) (roomsOf (a .1 .1 .1 .1 .1 .1 .0 .now) (a .1 .1 .1 .1 .1 .1 .1 .0 .now) (a .1 .1 .1 .1 .1 .1 .1 .1 .0 .now) (a .1 .1 .1 .1 .1 .1 .1 .1 .1 .0 .now))) (a .1 .1 .1 .1 .1 .1 .1 .1 .1 .1 .0 .now))
-    (λ κs e. record { trip = record { kept-speeds = e .1 .1 .1 .1 .1 .1 .0 .now; kept-co2 = e .1 .1 .1 .1 .1 .1 .1 .0 .now; ends = e .1 .1 .1 .1 .1 .1 .1 .1 .0 .now; ranks = e .1 .1 .1 .1 .1 .1 .1 .1 .1 .0 .now }; buffer = e .1 .1 .1 .1 .1 .1 .1 .1 .1 .1 .0 .now })
-    (λ κs a. printLeft (a .0) (lanesOf (a .1 .0 .now) (a .1 .1 .0 .now) (a .1 .1 .1 .0 .now) (a .1 .1 .1 .1 .0 .now) (a .1 .1 .1 .1 .1 .0 .now)) (record { kept-speeds = a .1 .1 .1 .1 .1 .1 .0 .now; kept-co2 = a .1 .1 .1 .1 .1 .1 .1 .0 .now; ends = a .1 .1 .1 .1 .1 .1 .1 .1 .0 .now; ranks = a .1 .1 .1 .1 .1 .1 .1 .1 .1 .0 .now }) (a .1 .1 .1 .1 .1 .1 .1 .1 .1 .1 .0 .now))
-write-text =
-    record {
-      takes-all = λ κs a. tt;
-      means = λ κs a x e p. (p .0, λ i. record { trip = four-lanes {x = record { kept-speeds = e .1 .1 .1 .1 .1 .1 .0 .now; kept-co2 = e .1 .1 .1 .1 .1 .1 .1 .0 .now; ends = e .1 .1 .1 .1 .1 .1 .1 .1 .0 .now; ranks = e .1 .1 .1 .1 .1 .1 .1 .1 .1 .0 .now }} (p .1 .1 .1) i; buffer = p .1 .0 i });
-    }
+abbrev pub printBuffer : (κs : Lfts 10) → contract.Dens κs print-kinds.ps → List ℕ
+printBuffer κs a = a .1 .1 .1 .1 .1 .1 .1 .1 .1 .1 .0 .now
+
+abbrev pub textPrinted : (κs : Lfts 10) → contract.Dens κs print-kinds.ps → List ℕ
+textPrinted κs a = printedText (a .0) (lanesRead κs a) (roomsIn (lentToPrint κs a))
+
+abbrev pub lentAndBufferAtExit : (κs : Lfts 10) → AtExit (contract.endedOf 10 print-kinds.ps print-kinds.r) κs → Lent × List ℕ
+lentAndBufferAtExit κs e =
+    let b = e .1 .1 .1 .1 .1 .1 in
+    (lentOf (b .0 .now) (b .1 .0 .now) (b .1 .1 .0 .now) (b .1 .1 .1 .0 .now), b .1 .1 .1 .1 .0 .now)
+
+pub write-text : Answers (Lent × List ℕ) write-text-call.Pre write-text-call.Post
+    (λ κs a. lengthWritten (textPrinted κs a) (printBuffer κs a))
+    lentAndBufferAtExit
+    (λ κs a. (lentAfter (a .0) (lanesRead κs a) (lentToPrint κs a), bufferWritten (textPrinted κs a) (printBuffer κs a)))
+write-text = record { takes-all = λ κs a. tt; means = λ κs a x e p. (p .0, λ i. (p .3 i, p .1 i)) }

@@ -7,23 +7,23 @@ use lib.IntN.{ℤ, pos, negsuc}
 use lib.ListN.{length, take, replicate}
 use lib.Ieee.{fin, ofInt, le, lt, eq, mul, round}
 use Rattle.base.specs.declared.Plan.{Plan}
-use Rattle.base.specs.Second.{altitudeInRange, height, altitudeCode}
 use Rattle.base.specs.Roads.{urban}
-use Rattle.base.specs.Words.{sum, afterFirst, firstBad}
+use Rattle.base.specs.Words.{sum, afterFirst, firstWhere, sumOver}
 use Rattle.second.specs.Bins.{binOf}
-use Rattle.second.specs.Lanes.{hasValues}
+use Rattle.second.specs.Row.{hasValues}
 use Rattle.sweep.specs.Sweep.{beginning, move, moveEnds, afterMoves, endsAfter}
-use Rattle.sweep.specs.Window.{windows, windowsAmong, hasWindow, windowLast}
+use Rattle.sweep.specs.Window.{windows, hasWindow, windowLast}
 use Rattle.windows.specs.Figure.{curve, lineAt, floorBy}
 use Rattle.acceleration.specs.D.{speedBefore, speedAfter, dOf, hasBefore, hasAfter, hasD}
 use Rattle.acceleration.specs.Products.{counts, countsIn, productOf, productsAfter, productsOf}
 use Rattle.percentile.specs.Percentile.{qOf}
-use Rattle.climb.specs.Climb.{recordedAt, recordedBefore, jumps, corrected, correctedAfter, stepUp, climbAfter, highAfter, climbOf, steep}
+use Rattle.climb.specs.Corrected.{recordedAt, recordedBefore, jumps, corrected, correctedAfter}
+use Rattle.climb.specs.Climb.{upward, stepUp, climbAfter, climbOf, steep}
 use Rattle.mass.specs.declared.Reading.{Reading}
 use Rattle.mass.specs.declared.Reading.the-variants.{DryPpm}
 use Rattle.mass.specs.declared.Setting.{Setting}
 use Rattle.mass.specs.declared.Weighed.the-variants.{Mass}
-use Rattle.mass.specs.Mass.{readingInRange, settingInRange, zeroTo, aboveZeroTo, inPpm, isDry, wetPpm, lastProduct, wholePart, massAnswer, co2Mass}
+use Rattle.mass.specs.Mass.{readingInRange, settingInRange, zeroTo, aboveZeroTo, wetPpm, lastProduct, wholePart, massAnswer, co2Mass}
 
 -- "plan 7; 200,000; 140,000; 160,000; 25, 45, 40, 40"
 abbrev printedPlan : Plan
@@ -88,5 +88,5 @@ allSay [] = Unit {0}
 allSay (row ∷ rows) = says row × allSay rows
 
 pub examples : allSay table
-unfolding afterFirst firstBad sum afterMoves endsAfter move moveEnds windowsAmong hasWindow windowLast curve lineAt floorBy binOf hasValues speedBefore speedAfter dOf hasBefore hasAfter hasD counts countsIn productOf productsAfter qOf altitudeInRange height altitudeCode recordedAt recordedBefore jumps corrected correctedAfter stepUp climbAfter highAfter climbOf steep co2Mass massAnswer readingInRange settingInRange zeroTo aboveZeroTo le lt eq ofInt round inPpm isDry wetPpm lastProduct wholePart mul
+unfolding afterFirst firstWhere sumOver sum afterMoves endsAfter move moveEnds hasWindow windowLast curve lineAt floorBy binOf hasValues speedBefore speedAfter dOf hasBefore hasAfter hasD counts countsIn productOf productsAfter qOf recordedAt recordedBefore jumps corrected correctedAfter upward stepUp climbAfter climbOf steep co2Mass massAnswer readingInRange settingInRange zeroTo aboveZeroTo le lt eq ofInt round wetPpm lastProduct wholePart mul
 examples = ((refl, refl), ((refl, refl), ((refl, refl), (refl, (refl, (refl, (refl, (refl, (refl, (refl, (refl, (refl, (refl, (refl, (refl, tt)))))))))))))))

@@ -6,13 +6,12 @@ use lib.ListN.{length}
 use Rattle.base.specs.declared.Plan.{Plan}
 use Rattle.base.specs.InFront.{InFront, StoredFrom}
 use Rattle.second.specs.Lanes.{Lanes}
-use Rattle.stream.specs.declared.Row.{Row}
+use Rattle.second.specs.declared.Row.{Row}
 use Rattle.stream.specs.Reading.{readOf, secondsOf, laneAfter}
 use Rattle.stream.proofs.Lanes as stream-lanes
 use Rattle.stream.proofs.Theorems as stream
 use Rattle.reader.specs.declared.Reader.{Reader}
-use Rattle.reader.specs.Blocks.{secondsAdded}
-use Rattle.reader.specs.Made.{fedOf, laneFed}
+use Rattle.reader.specs.Blocks.{secondsAdded, fedOf, laneFed}
 use Rattle.reader.proofs.Ending as blocks
 use Rattle.sweep.specs.declared.SweepState.{SweepState}
 use Rattle.sweep.specs.Sweep.{afterMoves, sweepAnswer, sweepEnds}
@@ -22,10 +21,9 @@ use Rattle.order.specs.Sort.{sort}
 use Rattle.percentile.specs.Percentile.{faultOf, laneOf}
 use Rattle.percentile.proofs.Refusals as percentile-refusals
 use Rattle.percentile.proofs.Theorems as percentile
-use Rattle.trip.specs.Refusals.{roomsOf}
 use Rattle.trip.specs.Trip.{answerOf}
-use Rattle.trip.specs.Lent.{keptSpeedsLane, keptCo2Lane, endsLane, ranksLane, Leaves}
-use Rattle.trip.proofs.Written as trip
+use Rattle.trip.specs.Lent.{Lent, roomsIn, lentLeft, Leaves}
+use Rattle.trip.proofs.Written as trips
 use Rattle.report.specs.Lines.{bufferWritten}
 use Rattle.report.proofs.Fitting as fitting
 use Rattle.report.proofs.Theorems as report
@@ -67,12 +65,12 @@ module _ (values lane : List ℕ) where
   percentile-accepted = percentile.accepted-writes values lane
 
 -- ---- the trip: the kept lanes, the ends and the ranks
-module _ (plan : Plan) (lanes : Lanes) (speeds co2 ends ranks : List ℕ) where
-  pub trip-refused : (answerOf plan lanes (roomsOf speeds co2 ends ranks) .refusal ≡ 0 → ⊥) → (keptSpeedsLane plan lanes (roomsOf speeds co2 ends ranks) speeds ≡ speeds) × (keptCo2Lane plan lanes (roomsOf speeds co2 ends ranks) co2 ≡ co2) × (endsLane plan lanes (roomsOf speeds co2 ends ranks) ends ≡ ends) × (ranksLane plan lanes (roomsOf speeds co2 ends ranks) ranks ≡ ranks)
-  trip-refused = trip.refused-writes-nothing plan lanes speeds co2 ends ranks
+module _ (plan : Plan) (trip : Lanes) (lent : Lent) where
+  pub trip-refused : (answerOf plan trip (roomsIn lent) .refusal ≡ 0 → ⊥) → lentLeft plan trip lent ≡ lent
+  trip-refused = trips.refused-writes-nothing plan trip lent
 
-  pub trip-accepted : answerOf plan lanes (roomsOf speeds co2 ends ranks) .refusal ≡ 0 → Leaves plan lanes speeds co2 ends ranks (keptSpeedsLane plan lanes (roomsOf speeds co2 ends ranks) speeds) (keptCo2Lane plan lanes (roomsOf speeds co2 ends ranks) co2) (endsLane plan lanes (roomsOf speeds co2 ends ranks) ends) (ranksLane plan lanes (roomsOf speeds co2 ends ranks) ranks)
-  trip-accepted = trip.accepted-writes plan lanes speeds co2 ends ranks
+  pub trip-accepted : answerOf plan trip (roomsIn lent) .refusal ≡ 0 → Leaves plan trip lent (lentLeft plan trip lent)
+  trip-accepted = trips.accepted-writes plan trip lent
 
 -- ---- the printed lines: a text that does not fit changes nothing, one that fits only its own places
 module _ (text buffer : List ℕ) where

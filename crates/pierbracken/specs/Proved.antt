@@ -29,8 +29,8 @@ use Rattle.verdict.proofs.has_reason.Statement as has-reason-is
 use Rattle.verdict.proofs.has_reason.Met as has-reason-met
 use Rattle.printed.proofs.write_text.Statement as write-text-is
 use Rattle.printed.proofs.write_text.Met as write-text-met
-use Rattle.capi.proofs.meaning.pb_meaning.Statement as pb-meaning-is
-use Rattle.capi.proofs.meaning.pb_meaning.Met as pb-meaning-met
+use Rattle.capi.proofs.release.pb_meaning.Statement as pb-meaning-is
+use Rattle.capi.proofs.release.pb_meaning.Met as pb-meaning-met
 use Rattle.capi.proofs.concentration.pb_mass_co2.Statement as pb-mass-co2-is
 use Rattle.capi.proofs.concentration.pb_mass_co2.Met as pb-mass-co2-met
 use Rattle.capi.proofs.concentration.pb_mass_nox.Statement as pb-mass-nox-is

@@ -4,19 +4,17 @@ use mathlib.Core.Path.{_≡_, sym, _∙_}
 use mathlib.Core.Bool.{false}
 use mathlib.Core.List.{List}
 use mathlib.Core.Logic.{_↔_}
-use lib.IntN.{pos}
 use lib.ListN.{length}
 use borrow.Fn.Kinds as contract
 use Rattle.base.specs.Refusal.{fault}
 use Rattle.base.specs.declared.Plan.{Plan}
 use Rattle.base.specs.Limits.{co2Most, noxMost}
 use Rattle.base.specs.declared.Fault.{Fault}
-use Rattle.second.specs.Lanes.{Lanes, lanesOf}
+use Rattle.second.specs.Lanes.{Lanes, roomIn}
 use Rattle.mass.specs.declared.Reading.{Reading}
 use Rattle.mass.specs.declared.Setting.{Setting}
 use Rattle.mass.specs.declared.Weighed.{Weighed}
-use Rattle.mass.specs.Mass.{number, co2Mass, noxMass}
-use Rattle.mass.specs.Mass as masses
+use Rattle.mass.specs.Mass.{mgInAGram, µgInAGram, co2Mass, noxMass}
 use Rattle.mass.specs.Outcomes as mass-outcomes
 use Rattle.mass.proofs.Theorems as mass
 use Rattle.item.specs.declared.Front.{Front}
@@ -24,7 +22,7 @@ use Rattle.item.specs.Item.{itemOf, refusalOf, lengthOf}
 use Rattle.item.specs.Outcomes as item-outcomes
 use Rattle.item.proofs.Refused as item
 use Rattle.stream.specs.declared.ReadAnswer.{ReadAnswer}
-use Rattle.stream.specs.Reading.{readOf, roomOf}
+use Rattle.stream.specs.Reading.{readOf}
 use Rattle.stream.specs.Outcomes as stream-outcomes
 use Rattle.stream.proofs.Refusals as stream
 use Rattle.sweep.specs.declared.SweepState.{SweepState}
@@ -40,7 +38,7 @@ use Rattle.percentile.specs.Percentile as percentiles
 use Rattle.percentile.specs.Outcomes as percentile-outcomes
 use Rattle.percentile.proofs.Theorems as percentile
 use Rattle.trip.specs.declared.Rooms.{Rooms}
-use Rattle.trip.specs.Refusals.{roomsOf}
+use Rattle.trip.specs.Lent.{roomsIn}
 use Rattle.trip.specs.Trip.{answerOf, refused}
 use Rattle.trip.specs.Outcomes as trip-outcomes
 use Rattle.trip.proofs.Refused as trip
@@ -48,7 +46,6 @@ use Rattle.trip.proofs.Theorems as trips
 use Rattle.report.specs.Lines.{judgedText, refusalText}
 use Rattle.report.proofs.Fitting as fitting
 use Rattle.report.proofs.Theorems as texts
-use Rattle.printed.specs.Printed.{printedText}
 use Rattle.printed.proofs.Texts as printed
 use Rattle.crossing.specs.Concentration as concentration
 use Rattle.crossing.specs.Items.{frontAcross, itemAnswer, noContents}
@@ -77,7 +74,7 @@ use Rattle.capi.proofs.sweeping.pb_sweep.Reads as pb-sweep-call
 use Rattle.capi.proofs.accelerations.pb_acceleration.Reads as pb-acceleration-call
 use Rattle.capi.proofs.accelerations.pb_percentile.Reads as pb-percentile-call
 use Rattle.capi.proofs.trips.pb_evaluate.Reads as pb-evaluate-call
-use Rattle.pierbracken.specs.Calls.{Answers}
+use Rattle.pierbracken.specs.Calls.{Answers, lanesBefore, indexBehind, tripIn, lentIn, textPrinted, printBuffer}
 use Rattle.pierbracken.specs.Calls as calls
 use Rattle.pierbracken.specs.FromC as from-c
 
@@ -90,13 +87,13 @@ through {ℓ} : {A : Type ℓ} {P : A → Type 0} {a b : A} → a ≡ b → ((x 
 through e says x = (λ p. says x .0 (sym e ∙ p), λ h. e ∙ says x .1 h)
 
 -- "Mass: 9, then 10"
-pub co2-mass : (reading : Reading) (setting : Setting) (answer : Weighed) → (co2Mass reading setting ≡ answer) ↔ mass-outcomes.Outcome (number 1_000) co2Most reading setting answer
+pub co2-mass : (reading : Reading) (setting : Setting) (answer : Weighed) → (co2Mass reading setting ≡ answer) ↔ mass-outcomes.Outcome mgInAGram co2Most reading setting answer
 unfolding co2Mass
-co2-mass reading setting answer = mass.refused-exactly (number 1_000) co2Most reading setting answer
+co2-mass reading setting answer = mass.refused-exactly mgInAGram co2Most reading setting answer
 
-pub nox-mass : (reading : Reading) (setting : Setting) (answer : Weighed) → (noxMass reading setting ≡ answer) ↔ mass-outcomes.Outcome (number 1_000_000) noxMost reading setting answer
+pub nox-mass : (reading : Reading) (setting : Setting) (answer : Weighed) → (noxMass reading setting ≡ answer) ↔ mass-outcomes.Outcome µgInAGram noxMost reading setting answer
 unfolding noxMass
-nox-mass reading setting answer = mass.refused-exactly (number 1_000_000) noxMost reading setting answer
+nox-mass reading setting answer = mass.refused-exactly µgInAGram noxMost reading setting answer
 
 -- "one item .. (8, 7, then 5 or 3; an empty slice is 7)"
 pub one-item : (bytes : List ℕ) (number : ℕ) → (refusalOf (itemOf bytes) ≡ number) ↔ item-outcomes.Outcome bytes number
@@ -116,11 +113,11 @@ sweeping-place reference co2 room state budget =
     rw (same .0) (same .1)
 
 -- D of one second: "(1, 2, 3, 4)"
-pub d-of-second : (lanes : Lanes) (i : ℕ) (given : Fault) → (fault (d.refusalOf (d.accelerationOf lanes i)) (d.placeOf (d.accelerationOf lanes i)) ≡ given) ↔ d-outcomes.Outcome lanes i given
+pub d-of-second : (lanes : Lanes) (i : ℕ) (given : Fault) → (d.faultIn (d.accelerationOf lanes i) ≡ given) ↔ d-outcomes.Outcome lanes i given
 d-of-second lanes i = through (acceleration.answer-fault lanes i) (acceleration.refused-exactly lanes i)
 
 -- "Percentile: 2, 12, 6, 3"
-pub ranking : (values : List ℕ) (places : ℕ) (given : Fault) → (fault (percentiles.refusalOf (percentiles.answerOf values places)) (percentiles.placeOf (percentiles.answerOf values places)) ≡ given) ↔ percentile-outcomes.Outcome values places given
+pub ranking : (values : List ℕ) (places : ℕ) (given : Fault) → (percentiles.faultIn (percentiles.answerOf values places) ≡ given) ↔ percentile-outcomes.Outcome values places given
 ranking values places = through (percentile.answer-fault values places) (percentile.refused-exactly values places)
 
 -- "Trip: 5, 1, 2, 6, 3, 4"
@@ -138,19 +135,19 @@ of-call call {look = look} law =
     record { exactly = λ κs inputs x e p. through (λ i. look κs (call .means κs inputs x e p .0 i)) (law κs inputs) }
 
 -- the mass of a second, in the library a reading, in C a kind and a value
-pub co2-mass-refused : RefusedAs co2-mass-call.Post (λ κs x. x) (λ κs a. mass-outcomes.Outcome (number 1_000) co2Most (a .0) (a .1 .0))
+pub co2-mass-refused : RefusedAs co2-mass-call.Post (λ κs x. x) (λ κs a. mass-outcomes.Outcome mgInAGram co2Most (a .0) (a .1 .0))
 co2-mass-refused = of-call calls.co2-mass (λ κs a. co2-mass (a .0) (a .1 .0))
 
-pub nox-mass-refused : RefusedAs nox-mass-call.Post (λ κs x. x) (λ κs a. mass-outcomes.Outcome (number 1_000_000) noxMost (a .0) (a .1 .0))
+pub nox-mass-refused : RefusedAs nox-mass-call.Post (λ κs x. x) (λ κs a. mass-outcomes.Outcome µgInAGram noxMost (a .0) (a .1 .0))
 nox-mass-refused = of-call calls.nox-mass (λ κs a. nox-mass (a .0) (a .1 .0))
 
-pub pb-mass-co2-refused : RefusedAs pb-mass-co2-call.Post (λ κs x. x .refusal) (λ κs a. crossing-outcomes.Outcome (number 1_000) co2Most (a .0) (a .1 .0) (a .1 .1 .0))
-unfolding co2Mass concentration.answerOf
-pb-mass-co2-refused = of-call from-c.pb-mass-co2 (λ κs a. crossing.mass-exactly (number 1_000) co2Most (a .0) (a .1 .0) (a .1 .1 .0))
+pub pb-mass-co2-refused : RefusedAs pb-mass-co2-call.Post (λ κs x. x .refusal) (λ κs a. crossing-outcomes.Outcome mgInAGram co2Most (a .0) (a .1 .0) (a .1 .1 .0))
+unfolding co2Mass
+pb-mass-co2-refused = of-call from-c.pb-mass-co2 (λ κs a. crossing.mass-exactly mgInAGram co2Most (a .0) (a .1 .0) (a .1 .1 .0))
 
-pub pb-mass-nox-refused : RefusedAs pb-mass-nox-call.Post (λ κs x. x .refusal) (λ κs a. crossing-outcomes.Outcome (number 1_000_000) noxMost (a .0) (a .1 .0) (a .1 .1 .0))
-unfolding noxMass concentration.answerOf
-pb-mass-nox-refused = of-call from-c.pb-mass-nox (λ κs a. crossing.mass-exactly (number 1_000_000) noxMost (a .0) (a .1 .0) (a .1 .1 .0))
+pub pb-mass-nox-refused : RefusedAs pb-mass-nox-call.Post (λ κs x. x .refusal) (λ κs a. crossing-outcomes.Outcome µgInAGram noxMost (a .0) (a .1 .0) (a .1 .1 .0))
+unfolding noxMass
+pb-mass-nox-refused = of-call from-c.pb-mass-nox (λ κs a. crossing.mass-exactly µgInAGram noxMost (a .0) (a .1 .0) (a .1 .1 .0))
 
 -- one item
 pub item-refused : RefusedAs read-item-call.Post (λ κs x. refusalOf x) (λ κs a. item-outcomes.Outcome (a .0 .now))
@@ -163,7 +160,7 @@ pb-item-refused = of-call from-c.pb-item (λ κs a. one-item (a .0 .now))
 -- a whole stream
 abbrev StreamRefused : contract.Out 6 stream-kinds.ps stream-kinds.r → Type 0
 StreamRefused allows =
-    RefusedAs allows (λ κs x. x) (λ κs a. stream-outcomes.Outcome (roomOf (a .1 .0 .now) (a .1 .1 .0 .now) (a .1 .1 .1 .0 .now) (a .1 .1 .1 .1 .0 .now) (a .1 .1 .1 .1 .1 .0 .now)) (a .0 .now))
+    RefusedAs allows (λ κs x. x) (λ κs a. stream-outcomes.Outcome (roomIn (calls.lanesToFill κs a)) (a .0 .now))
 
 pub stream-refused : StreamRefused read-stream-call.Post
 stream-refused = of-call calls.read-stream (λ κs a. whole-stream _ (a .0 .now))
@@ -183,25 +180,23 @@ pub pb-sweep-refused : SweepRefused pb-sweep-call.Post
 pb-sweep-refused = of-call from-c.pb-sweep (λ κs a. sweeping (a .0) (a .1 .0 .now) (length (a .1 .1 .0 .now)) (a .1 .1 .1 .0) (a .1 .1 .1 .1 .0))
 
 -- D of one second
-pub d-refused : RefusedAs d-of-second-call.Post (λ κs x. fault (d.refusalOf x) (d.placeOf x)) (λ κs a. d-outcomes.Outcome (lanesOf (a .0 .now) (a .1 .0 .now) (a .1 .1 .0 .now) (a .1 .1 .1 .0 .now) (a .1 .1 .1 .1 .0 .now)) (a .1 .1 .1 .1 .1 .0))
-d-refused = of-call calls.d-of-second (λ κs a. d-of-second _ (a .1 .1 .1 .1 .1 .0))
+pub d-refused : RefusedAs d-of-second-call.Post (λ κs x. d.faultIn x) (λ κs a. d-outcomes.Outcome (lanesBefore κs a) (indexBehind κs a))
+d-refused = of-call calls.d-of-second (λ κs a. d-of-second (lanesBefore κs a) (indexBehind κs a))
 
-pub pb-acceleration-refused : RefusedAs pb-acceleration-call.Post (λ κs x. fault (x .refusal) (x .place)) (λ κs a. d-outcomes.Outcome (lanesOf (a .0 .now) (a .1 .0 .now) (a .1 .1 .0 .now) (a .1 .1 .1 .0 .now) (a .1 .1 .1 .1 .0 .now)) (a .1 .1 .1 .1 .1 .0))
-unfolding accelerationAcross
-pb-acceleration-refused = of-call from-c.pb-acceleration (λ κs a. d-of-second _ (a .1 .1 .1 .1 .1 .0))
+pub pb-acceleration-refused : RefusedAs pb-acceleration-call.Post (λ κs x. fault (x .refusal) (x .place)) (λ κs a. d-outcomes.Outcome (lanesBefore κs a) (indexBehind κs a))
+pb-acceleration-refused = of-call from-c.pb-acceleration (λ κs a. through (crossing.acceleration-fault _) (d-of-second (lanesBefore κs a) (indexBehind κs a)))
 
 -- the percentile
-pub percentile-refused : RefusedAs percentile-call.Post (λ κs x. fault (percentiles.refusalOf x) (percentiles.placeOf x)) (λ κs a. percentile-outcomes.Outcome (a .0 .now) (length (a .1 .0 .now)))
+pub percentile-refused : RefusedAs percentile-call.Post (λ κs x. percentiles.faultIn x) (λ κs a. percentile-outcomes.Outcome (a .0 .now) (length (a .1 .0 .now)))
 percentile-refused = of-call calls.percentile (λ κs a. ranking (a .0 .now) (length (a .1 .0 .now)))
 
 pub pb-percentile-refused : RefusedAs pb-percentile-call.Post (λ κs x. fault (x .refusal) (x .place)) (λ κs a. percentile-outcomes.Outcome (a .0 .now) (length (a .1 .0 .now)))
-unfolding percentileAcross
-pb-percentile-refused = of-call from-c.pb-percentile (λ κs a. ranking (a .0 .now) (length (a .1 .0 .now)))
+pb-percentile-refused = of-call from-c.pb-percentile (λ κs a. through (crossing.percentile-fault _) (ranking (a .0 .now) (length (a .1 .0 .now))))
 
 -- a trip
 abbrev TripRefused : contract.Out 9 trip-kinds.ps trip-kinds.r → Type 0
 TripRefused allows =
-    RefusedAs allows (λ κs x. fault (x .refusal) (x .place)) (λ κs a. trip-outcomes.Given (a .0) (lanesOf (a .1 .0 .now) (a .1 .1 .0 .now) (a .1 .1 .1 .0 .now) (a .1 .1 .1 .1 .0 .now) (a .1 .1 .1 .1 .1 .0 .now)) (roomsOf (a .1 .1 .1 .1 .1 .1 .0 .now) (a .1 .1 .1 .1 .1 .1 .1 .0 .now) (a .1 .1 .1 .1 .1 .1 .1 .1 .0 .now) (a .1 .1 .1 .1 .1 .1 .1 .1 .1 .0 .now)))
+    RefusedAs allows (λ κs x. fault (x .refusal) (x .place)) (λ κs a. trip-outcomes.Given (a .0) (tripIn κs a) (roomsIn (lentIn κs a)))
 
 pub trip-refused : TripRefused evaluate-call.Post
 trip-refused = of-call calls.evaluate (λ κs a. whole-trip (a .0) _ _)
@@ -220,21 +215,13 @@ report-refused κs a x e p = rw (p .0) (fitting.zero-exactly (judgedText (a .0))
 pub report-refusal-refused : TextRefused report-refusal-call.Post (λ κs a. refusalText (a .0) (a .1 .0)) (λ κs a. a .1 .1 .0 .now)
 report-refusal-refused κs a x e p = rw (p .0) (fitting.zero-exactly (refusalText (a .0) (a .1 .0)) (a .1 .1 .0 .now) (texts.refusal-some (a .0) (a .1 .0)))
 
-pub write-text-refused : TextRefused write-text-call.Post (λ κs a. printedText (a .0) (lanesOf (a .1 .0 .now) (a .1 .1 .0 .now) (a .1 .1 .1 .0 .now) (a .1 .1 .1 .1 .0 .now) (a .1 .1 .1 .1 .1 .0 .now)) (roomsOf (a .1 .1 .1 .1 .1 .1 .0 .now) (a .1 .1 .1 .1 .1 .1 .1 .0 .now) (a .1 .1 .1 .1 .1 .1 .1 .1 .0 .now) (a .1 .1 .1 .1 .1 .1 .1 .1 .1 .0 .now))) (λ κs a. a .1 .1 .1 .1 .1 .1 .1 .1 .1 .1 .0 .now)
+pub write-text-refused : TextRefused write-text-call.Post textPrinted printBuffer
 write-text-refused κs a x e p = rw (p .0) (fitting.zero-exactly _ _ (printed.text-some (a .0) _ _))
 
--- ---- "A refusal returns its number and a place .., with all other results zero": the stream's `Outcome` says so of its own
-pub no-mass : (answer : Weighed) → (masses.refusalOf answer ≡ 0 → ⊥) → masses.wholeMassOf answer ≡ 0
-no-mass = mass.refused-no-mass
-
+-- ---- "A refusal returns its number and a place .., with all other results zero": the stream's `Outcome` says so of its own, and the
+-- answers by cases of the mass, of D and of the percentile have nothing beside a refusal
 pub no-length : (front : Front) → (refusalOf front ≡ 0 → ⊥) → lengthOf front ≡ 0
 no-length = item.refused-no-length
-
-pub no-d : (answer : Acceleration) → (d.refusalOf answer ≡ 0 → ⊥) → d.valueOf answer ≡ pos 0
-no-d = acceleration.refused-no-d
-
-pub no-q : (answer : Answer) → (percentiles.refusalOf answer ≡ 0 → ⊥) → percentiles.valueOf answer ≡ 0
-no-q = percentile.refused-no-q
 
 pub sweep-zeros : (reference : ℕ) (co2 : List ℕ) (room : ℕ) (state : SweepState) (budget : ℕ) → (sweepAnswer reference co2 room state budget .refusal ≡ 0 → ⊥) → sweepAnswer reference co2 room state budget ≡ refusedAnswer co2 (sweepAnswer reference co2 room state budget .refusal)
 sweep-zeros = sweep.refused-zeros
@@ -243,14 +230,14 @@ pub trip-zeros : (plan : Plan) (lanes : Lanes) (rooms : Rooms) → (answerOf pla
 trip-zeros = trips.refused-zeros
 
 -- of the structs that cross to C
-pub pb-mass-zeros : (answer : Weighed) → (masses.refusalOf answer ≡ 0 → ⊥) → concentration.answerOf answer ≡ record { refusal = masses.refusalOf answer; mass = 0; place = 0 }
+pub pb-mass-zeros : (answer : Weighed) → (concentration.answerOf answer .refusal ≡ 0 → ⊥) → concentration.answerOf answer ≡ record { refusal = concentration.answerOf answer .refusal; mass = 0; place = 0 }
 pb-mass-zeros = crossing.mass-zeros
 
-pub pb-item-zeros : (front : Front) → (refusalOf front ≡ 0 → ⊥) → frontAcross front ≡ itemAnswer (refusalOf front) noContents 0 0
+pub pb-item-zeros : (byte : ℕ) (front : Front) → (refusalOf front ≡ 0 → ⊥) → frontAcross byte front ≡ itemAnswer (refusalOf front) 0 noContents 0 0
 pb-item-zeros = crossing.item-zeros
 
-pub pb-acceleration-zeros : (answer : Acceleration) → (d.refusalOf answer ≡ 0 → ⊥) → accelerationAcross answer ≡ record { refusal = d.refusalOf answer; «has_d» = false; rise = 0; fall = 0; place = d.placeOf answer }
+pub pb-acceleration-zeros : (answer : Acceleration) → (d.faultIn answer .number ≡ 0 → ⊥) → accelerationAcross answer ≡ record { refusal = d.faultIn answer .number; «has_d» = false; rise = 0; fall = 0; place = d.faultIn answer .place }
 pb-acceleration-zeros = crossing.acceleration-zeros
 
-pub pb-percentile-zeros : (answer : Answer) → (percentiles.refusalOf answer ≡ 0 → ⊥) → percentileAcross answer ≡ record { refusal = percentiles.refusalOf answer; q = 0; place = percentiles.placeOf answer }
+pub pb-percentile-zeros : (answer : Answer) → (percentiles.faultIn answer .number ≡ 0 → ⊥) → percentileAcross answer ≡ record { refusal = percentiles.faultIn answer .number; q = 0; place = percentiles.faultIn answer .place }
 pb-percentile-zeros = crossing.percentile-zeros

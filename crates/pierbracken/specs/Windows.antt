@@ -5,13 +5,13 @@ use mathlib.Core.Bool.{true}
 use mathlib.Core.List.{List}
 use mathlib.Core.Logic.{_↔_}
 use lib.ListN.{length}
+use Rattle.base.specs.Words.{sum}
 use Rattle.sweep.specs.declared.SweepState.{SweepState}
 use Rattle.sweep.specs.declared.Swept.{Swept}
 use Rattle.sweep.specs.Sweep.{beginning, isOver, afterMoves, sweepAnswer, sweepEnds}
-use Rattle.sweep.specs.Window.{massFrom, windowLast, hasWindow, windows}
-use Rattle.sweep.specs.Inside.{Standing}
+use Rattle.sweep.specs.Window.{fromTo, windowLast, hasWindow, windows}
 use Rattle.sweep.specs.Outcomes.{Accepted}
-use Rattle.sweep.specs.Runs.{IsWindow, Spent, Resumed, Whole}
+use Rattle.sweep.specs.Runs.{IsWindow, Spent, Resumed, Whole, Standing}
 use Rattle.sweep.proofs.Windows as runs
 use Rattle.sweep.proofs.Finished as finished
 use Rattle.sweep.proofs.Reached as reached
@@ -24,7 +24,7 @@ module _ (reference : ℕ) (co2 : List ℕ) where
   shortest-run = runs.window reference co2
 
   -- every kept second whose run can reach the reference has a window
-  pub none-left-out : (f k : ℕ) → f + k < length co2 → reference ≤ massFrom co2 f k → hasWindow reference co2 f ≡ true
+  pub none-left-out : (f l : ℕ) → f ≤ l → l < length co2 → reference ≤ sum (fromTo f l co2) → hasWindow reference co2 f ≡ true
   none-left-out = runs.can-have reference co2
 
   -- ends never step back
@@ -49,8 +49,8 @@ module _ (reference : ℕ) (co2 ends : List ℕ) where
   pub moves-counted : (state : SweepState) → Accepted reference co2 (length ends) state → (budget : ℕ) → sweepAnswer reference co2 (length ends) state budget .state .moves ≡ state .moves + sweepAnswer reference co2 (length ends) state budget .moves
   moves-counted state accepted budget = rw (sweep.run-answered reference co2 ends state accepted budget) (reached.moves-counted reference co2 budget state)
 
-  -- with budget enough from the beginning: it is over, has made kept plus windows moves, and the lane holds the end of every window
-  pub run-to-its-end : (budget : ℕ) → Accepted reference co2 (length ends) beginning → length co2 + length co2 ≤ budget → Whole reference co2 ends (sweepEnds reference co2 ends beginning budget) (sweepAnswer reference co2 (length ends) beginning budget)
+  -- with a budget of kept plus windows moves from the beginning: it is over, has made kept plus windows moves, and the lane holds the end of every window
+  pub run-to-its-end : (budget : ℕ) → Accepted reference co2 (length ends) beginning → length co2 + windows reference co2 ≤ budget → Whole reference co2 ends (sweepEnds reference co2 ends beginning budget) (sweepAnswer reference co2 (length ends) beginning budget)
   run-to-its-end = sweep.whole reference co2 ends
 
 -- ---- resumed
@@ -68,6 +68,6 @@ module _ (reference : ℕ) (co2 ends : List ℕ) (state : SweepState) (a b : ℕ
   abbrev both : Swept
   both = sweepAnswer reference co2 (length ends) state (a + b)
 
-  -- the two calls come to what the one comes to: state, moves, whether it is over, and lane
+  -- the second call is accepted, and the two come to what the one comes to: state, moves, whether it is over, and lane
   pub resumed : Accepted reference co2 (length ends) state → Resumed first second both (sweepEnds reference co2 left (first .state) b) (sweepEnds reference co2 ends state (a + b))
   resumed = sweep.resumed reference co2 ends state a b

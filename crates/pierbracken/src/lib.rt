@@ -5,7 +5,7 @@
 // lent lane. specs/ has the theorems about the whole, a file for each demand.
 
 // The release of the meaning of "valid" by which this build answers.
-pub use base::meaning::RELEASE;
+pub use meaning::RELEASE;
 
 // The plan of a trip, and a refusal's number and place.
 pub use base::Fault;
@@ -21,8 +21,8 @@ pub use mass::nox_mass;
 // One item from the front of some bytes.
 pub use item::Front;
 pub use item::Item;
-pub use item::Values;
 pub use item::read_item;
+pub use second::Row;
 
 // A whole stream, read into five lent lanes.
 pub use stream::ReadAnswer;

@@ -14,10 +14,10 @@ use Rattle.second.specs.Lanes.{Lanes}
 use Rattle.trip.specs.declared.Evaluated.{Evaluated}
 use Rattle.trip.specs.declared.Rooms.{Rooms}
 use Rattle.trip.specs.Trip.{answerOf}
-use Rattle.trip.specs.Lent.{keptSpeedsLane, keptCo2Lane, endsLane, ranksLane}
+use Rattle.trip.specs.Lent.{Lent, lentLeft}
 use Rattle.report.specs.Lines.{judgedText, refusalText, lengthWritten, bufferWritten}
 use Rattle.report.proofs.Theorems.{judged-some, refusal-some}
-use Rattle.printed.specs.Printed.{firstSeconds, linesOf, tripText, printedText, keptSpeedsLeft, keptCo2Left, endsLeft, ranksLeft}
+use Rattle.printed.specs.Printed.{firstSeconds, linesOf, tripText, printedText, lentAfter}
 
 -- ---- a trip's answer
 pub refused-trip : (trip : Evaluated) → (trip .refusal ≡ accepted → ⊥) → tripText trip ≡ refusalText (trip .refusal) (trip .place)
@@ -29,48 +29,24 @@ unfolding tripText
 judged-trip trip is-good = rw (eq-eqb _ _ is-good) refl
 
 -- ---- a stream that is refused
-module _ (read : ReadAnswer) (lanes : Lanes) (rooms : Rooms) (is-bad : read .refusal ≡ accepted → ⊥) where
-  pub refused-text : printedText read lanes rooms ≡ refusalText (read .refusal) (read .place)
+module _ (read : ReadAnswer) (lanes : Lanes) (is-bad : read .refusal ≡ accepted → ⊥) where
+  pub refused-text : (rooms : Rooms) → printedText read lanes rooms ≡ refusalText (read .refusal) (read .place)
   unfolding printedText
-  refused-text = rw (ne-eqb _ _ is-bad) refl
+  refused-text rooms = rw (ne-eqb _ _ is-bad) refl
 
-  pub refused-speeds : (lane : List ℕ) → keptSpeedsLeft read lanes rooms lane ≡ lane
-  unfolding keptSpeedsLeft
-  refused-speeds lane = rw (ne-eqb _ _ is-bad) refl
-
-  pub refused-co2 : (lane : List ℕ) → keptCo2Left read lanes rooms lane ≡ lane
-  unfolding keptCo2Left
-  refused-co2 lane = rw (ne-eqb _ _ is-bad) refl
-
-  pub refused-ends : (lane : List ℕ) → endsLeft read lanes rooms lane ≡ lane
-  unfolding endsLeft
-  refused-ends lane = rw (ne-eqb _ _ is-bad) refl
-
-  pub refused-ranks : (lane : List ℕ) → ranksLeft read lanes rooms lane ≡ lane
-  unfolding ranksLeft
-  refused-ranks lane = rw (ne-eqb _ _ is-bad) refl
+  pub refused-lent : (lent : Lent) → lentAfter read lanes lent ≡ lent
+  unfolding lentAfter
+  refused-lent lent = rw (ne-eqb _ _ is-bad) refl
 
 -- ---- a stream that is readable
-module _ (read : ReadAnswer) (lanes : Lanes) (rooms : Rooms) (is-good : read .refusal ≡ accepted) where
-  pub read-text : printedText read lanes rooms ≡ tripText (answerOf (read .plan) (firstSeconds (read .seconds) lanes) rooms)
+module _ (read : ReadAnswer) (lanes : Lanes) (is-good : read .refusal ≡ accepted) where
+  pub read-text : (rooms : Rooms) → printedText read lanes rooms ≡ tripText (answerOf (read .plan) (firstSeconds (read .seconds) lanes) rooms)
   unfolding printedText
-  read-text = rw (eq-eqb _ _ is-good) refl
+  read-text rooms = rw (eq-eqb _ _ is-good) refl
 
-  pub read-speeds : (lane : List ℕ) → keptSpeedsLeft read lanes rooms lane ≡ keptSpeedsLane (read .plan) (firstSeconds (read .seconds) lanes) rooms lane
-  unfolding keptSpeedsLeft
-  read-speeds lane = rw (eq-eqb _ _ is-good) refl
-
-  pub read-co2 : (lane : List ℕ) → keptCo2Left read lanes rooms lane ≡ keptCo2Lane (read .plan) (firstSeconds (read .seconds) lanes) rooms lane
-  unfolding keptCo2Left
-  read-co2 lane = rw (eq-eqb _ _ is-good) refl
-
-  pub read-ends : (lane : List ℕ) → endsLeft read lanes rooms lane ≡ endsLane (read .plan) (firstSeconds (read .seconds) lanes) rooms lane
-  unfolding endsLeft
-  read-ends lane = rw (eq-eqb _ _ is-good) refl
-
-  pub read-ranks : (lane : List ℕ) → ranksLeft read lanes rooms lane ≡ ranksLane (read .plan) (firstSeconds (read .seconds) lanes) rooms lane
-  unfolding ranksLeft
-  read-ranks lane = rw (eq-eqb _ _ is-good) refl
+  pub read-lent : (lent : Lent) → lentAfter read lanes lent ≡ lentLeft (read .plan) (firstSeconds (read .seconds) lanes) lent
+  unfolding lentAfter
+  read-lent lent = rw (eq-eqb _ _ is-good) refl
 
 -- ---- the buffer afterwards
 -- what was written lies within it

@@ -7,20 +7,20 @@ use Rattle.base.specs.Refusal.{accepted}
 use Rattle.base.specs.Roads.{urban, rural, motorway}
 use Rattle.base.specs.Words.{pick}
 use Rattle.stream.specs.declared.ReadAnswer.{ReadAnswer}
-use Rattle.second.specs.Lanes.{Lanes, lanesOf}
+use Rattle.second.specs.Lanes.{Lanes, eachLane}
 use Rattle.windows.specs.declared.ClassCount.{ClassCount}
 use Rattle.windows.specs.Counts.{noCount}
 use Rattle.trip.specs.declared.Evaluated.{Evaluated}
 use Rattle.trip.specs.declared.Rooms.{Rooms}
 use Rattle.trip.specs.Trip.{answerOf}
-use Rattle.trip.specs.Lent.{keptSpeedsLane, keptCo2Lane, endsLane, ranksLane}
+use Rattle.trip.specs.Lent.{Lent, lentLeft}
 use Rattle.report.specs.declared.ClassLine.{ClassLine}
 use Rattle.report.specs.declared.Judged.{Judged}
 use Rattle.report.specs.Lines.{judgedText, refusalText}
 
 -- the trip of the first n seconds in the lanes
 abbrev pub firstSeconds : ℕ → Lanes → Lanes
-firstSeconds n lanes = lanesOf (take n (lanes .states)) (take n (lanes .speeds)) (take n (lanes .altitudes)) (take n (lanes .co2)) (take n (lanes .nox))
+firstSeconds n = eachLane (λ A value lane. take n lane)
 
 -- "Class lines: windows, windows inside."
 abbrev pub classLineOf : ClassCount → ClassLine
@@ -45,27 +45,18 @@ linesOf trip =
 unfoldable pub tripText : Evaluated → List ℕ
 tripText trip = pick (eqb (trip .refusal) accepted) (judgedText (linesOf trip)) (refusalText (trip .refusal) (trip .place))
 
-module _ (read : ReadAnswer) (lanes : Lanes) (rooms : Rooms) where
+module _ (read : ReadAnswer) (lanes : Lanes) where
   -- the trip that was read into the lanes
   abbrev tripRead : Lanes
   tripRead = firstSeconds (read .seconds) lanes
 
   -- the stream's refusal, or else what is printed of the trip that was read
-  unfoldable pub printedText : List ℕ
-  printedText =
+  unfoldable pub printedText : Rooms → List ℕ
+  printedText rooms =
       pick (eqb (read .refusal) accepted)
       (tripText (answerOf (read .plan) tripRead rooms))
       (refusalText (read .refusal) (read .place))
 
   -- the lent lanes afterwards: as the evaluation leaves them, where the stream is not refused
-  unfoldable pub keptSpeedsLeft : List ℕ → List ℕ
-  keptSpeedsLeft lane = pick (eqb (read .refusal) accepted) (keptSpeedsLane (read .plan) tripRead rooms lane) lane
-
-  unfoldable pub keptCo2Left : List ℕ → List ℕ
-  keptCo2Left lane = pick (eqb (read .refusal) accepted) (keptCo2Lane (read .plan) tripRead rooms lane) lane
-
-  unfoldable pub endsLeft : List ℕ → List ℕ
-  endsLeft lane = pick (eqb (read .refusal) accepted) (endsLane (read .plan) tripRead rooms lane) lane
-
-  unfoldable pub ranksLeft : List ℕ → List ℕ
-  ranksLeft lane = pick (eqb (read .refusal) accepted) (ranksLane (read .plan) tripRead rooms lane) lane
+  unfoldable pub lentAfter : Lent → Lent
+  lentAfter lent = pick (eqb (read .refusal) accepted) (lentLeft (read .plan) tripRead lent) lent

@@ -13,10 +13,9 @@ ghost use Prim.Native.Nat.{_≤_};
 ghost use lib.ListN.{length};
 ghost use Rattle.second.specs.Lanes.{lanesOf};
 ghost use Rattle.report.specs.Lines.{lengthWritten, bufferWritten, longestText};
-ghost use Rattle.trip.specs.Refusals.{roomsOf};
 ghost use Rattle.trip.specs.Trip.{answerOf};
-ghost use Rattle.trip.specs.Lent.{keptSpeedsLane, keptCo2Lane, endsLane, ranksLane};
-ghost use Rattle.printed.specs.Printed.{firstSeconds, classLineOf, linesOf, tripText, printedText, keptSpeedsLeft, keptCo2Left, endsLeft, ranksLeft};
+ghost use Rattle.trip.specs.Lent.{lentOf, roomsIn, lentLeft};
+ghost use Rattle.printed.specs.Printed.{firstSeconds, classLineOf, linesOf, tripText, printedText, lentAfter};
 
 // Judges the seconds that were read, which stand at the front of the five lanes, writes what is
 // printed to the front of a buffer, and answers how many bytes it takes; a buffer of
@@ -35,13 +34,15 @@ pub fn write_text(
     ranks: &mut [u32],
     buffer: &mut [u8],
 ) -> usize
-    ensures { λ r. ⌜ r ≡ lengthWritten (printedText read (lanesOf (now (states .entry)) (now (speeds .entry)) (now (altitudes .entry)) (now (co2 .entry)) (now (nox .entry))) (roomsOf (now («kept_speeds» .entry)) (now («kept_co2» .entry)) (now (ends .entry)) (now (ranks .entry)))) (now (buffer .entry)) ⌝ }
-    ensures { λ r. ⌜ now (buffer .exit) ≡ bufferWritten (printedText read (lanesOf (now (states .entry)) (now (speeds .entry)) (now (altitudes .entry)) (now (co2 .entry)) (now (nox .entry))) (roomsOf (now («kept_speeds» .entry)) (now («kept_co2» .entry)) (now (ends .entry)) (now (ranks .entry)))) (now (buffer .entry)) ⌝ }
-    ensures { λ r. ⌜ length (printedText read (lanesOf (now (states .entry)) (now (speeds .entry)) (now (altitudes .entry)) (now (co2 .entry)) (now (nox .entry))) (roomsOf (now («kept_speeds» .entry)) (now («kept_co2» .entry)) (now (ends .entry)) (now (ranks .entry)))) ≤ longestText ⌝ }
-    ensures { λ r. ⌜ now («kept_speeds» .exit) ≡ keptSpeedsLeft read (lanesOf (now (states .entry)) (now (speeds .entry)) (now (altitudes .entry)) (now (co2 .entry)) (now (nox .entry))) (roomsOf (now («kept_speeds» .entry)) (now («kept_co2» .entry)) (now (ends .entry)) (now (ranks .entry))) (now («kept_speeds» .entry)) ⌝ }
-    ensures { λ r. ⌜ now («kept_co2» .exit) ≡ keptCo2Left read (lanesOf (now (states .entry)) (now (speeds .entry)) (now (altitudes .entry)) (now (co2 .entry)) (now (nox .entry))) (roomsOf (now («kept_speeds» .entry)) (now («kept_co2» .entry)) (now (ends .entry)) (now (ranks .entry))) (now («kept_co2» .entry)) ⌝ }
-    ensures { λ r. ⌜ now (ends .exit) ≡ endsLeft read (lanesOf (now (states .entry)) (now (speeds .entry)) (now (altitudes .entry)) (now (co2 .entry)) (now (nox .entry))) (roomsOf (now («kept_speeds» .entry)) (now («kept_co2» .entry)) (now (ends .entry)) (now (ranks .entry))) (now (ends .entry)) ⌝ }
-    ensures { λ r. ⌜ now (ranks .exit) ≡ ranksLeft read (lanesOf (now (states .entry)) (now (speeds .entry)) (now (altitudes .entry)) (now (co2 .entry)) (now (nox .entry))) (roomsOf (now («kept_speeds» .entry)) (now («kept_co2» .entry)) (now (ends .entry)) (now (ranks .entry))) (now (ranks .entry)) ⌝ }
+    ensures { λ r.
+        let lanes = lanesOf (now (states .entry)) (now (speeds .entry)) (now (altitudes .entry)) (now (co2 .entry)) (now (nox .entry)) in
+        let lent = lentOf (now («kept_speeds» .entry)) (now («kept_co2» .entry)) (now (ends .entry)) (now (ranks .entry)) in
+        let text = printedText read lanes (roomsIn lent) in
+        let left = lentOf (now («kept_speeds» .exit)) (now («kept_co2» .exit)) (now (ends .exit)) (now (ranks .exit)) in
+        ⌜ (r ≡ lengthWritten text (now (buffer .entry)))
+        × (now (buffer .exit) ≡ bufferWritten text (now (buffer .entry)))
+        × (length text ≤ longestText)
+        × (left ≡ lentAfter read lanes lent) ⌝ }
 {
     let stream_refusal = read.refusal;
     let stream_place = read.place;
@@ -80,11 +81,12 @@ fn judge_first(
     ends: &mut [u16],
     ranks: &mut [u32],
 ) -> Evaluated
-    ensures { λ r. ⌜ r ≡ answerOf plan (firstSeconds seconds (lanesOf (now (states .entry)) (now (speeds .entry)) (now (altitudes .entry)) (now (co2 .entry)) (now (nox .entry)))) (roomsOf (now («kept_speeds» .entry)) (now («kept_co2» .entry)) (now (ends .entry)) (now (ranks .entry))) ⌝ }
-    ensures { λ r. ⌜ now («kept_speeds» .exit) ≡ keptSpeedsLane plan (firstSeconds seconds (lanesOf (now (states .entry)) (now (speeds .entry)) (now (altitudes .entry)) (now (co2 .entry)) (now (nox .entry)))) (roomsOf (now («kept_speeds» .entry)) (now («kept_co2» .entry)) (now (ends .entry)) (now (ranks .entry))) (now («kept_speeds» .entry)) ⌝ }
-    ensures { λ r. ⌜ now («kept_co2» .exit) ≡ keptCo2Lane plan (firstSeconds seconds (lanesOf (now (states .entry)) (now (speeds .entry)) (now (altitudes .entry)) (now (co2 .entry)) (now (nox .entry)))) (roomsOf (now («kept_speeds» .entry)) (now («kept_co2» .entry)) (now (ends .entry)) (now (ranks .entry))) (now («kept_co2» .entry)) ⌝ }
-    ensures { λ r. ⌜ now (ends .exit) ≡ endsLane plan (firstSeconds seconds (lanesOf (now (states .entry)) (now (speeds .entry)) (now (altitudes .entry)) (now (co2 .entry)) (now (nox .entry)))) (roomsOf (now («kept_speeds» .entry)) (now («kept_co2» .entry)) (now (ends .entry)) (now (ranks .entry))) (now (ends .entry)) ⌝ }
-    ensures { λ r. ⌜ now (ranks .exit) ≡ ranksLane plan (firstSeconds seconds (lanesOf (now (states .entry)) (now (speeds .entry)) (now (altitudes .entry)) (now (co2 .entry)) (now (nox .entry)))) (roomsOf (now («kept_speeds» .entry)) (now («kept_co2» .entry)) (now (ends .entry)) (now (ranks .entry))) (now (ranks .entry)) ⌝ }
+    ensures { λ r.
+        let trip = firstSeconds seconds (lanesOf (now (states .entry)) (now (speeds .entry)) (now (altitudes .entry)) (now (co2 .entry)) (now (nox .entry))) in
+        let lent = lentOf (now («kept_speeds» .entry)) (now («kept_co2» .entry)) (now (ends .entry)) (now (ranks .entry)) in
+        let left = lentOf (now («kept_speeds» .exit)) (now («kept_co2» .exit)) (now (ends .exit)) (now (ranks .exit)) in
+        ⌜ (r ≡ answerOf plan trip (roomsIn lent))
+        × (left ≡ lentLeft plan trip lent) ⌝ }
 {
     let in_states = base::least(seconds, states.len());
     let in_speeds = base::least(seconds, speeds.len());

@@ -4,7 +4,7 @@
 use base::Plan;
 ghost use mathlib.Core.Path.{_≡_};
 ghost use Rattle.lively.specs.Lively.{tooLively, tooDull};
-ghost use Rattle.probe.specs.Window.{windowProbe};
+ghost use Rattle.probe.specs.Window.{windowInRange, windowProbe};
 
 // Whether a bin is too lively: S, N and Q of any size.
 #[no_mangle]
@@ -25,12 +25,12 @@ pub extern "C" fn probe_too_dull(s: u32, n: u32, t: u64) -> bool
 // A window judged.
 #[repr(C)]
 pub struct WindowProbe {
-    pub judged: bool, // whether the plan is in range and the window moves and has seconds
+    pub judged: bool, // whether the plan is in range and a trip can have such a window
     pub inside: bool,
     pub class: usize, // 0 urban, 1 rural, 2 motorway, 3 none
 }
 
-// A window of any sum of speeds, mass and length.
+// A window of any mass, and of any length and sum of speeds that a trip can have.
 #[no_mangle]
 pub extern "C" fn probe_window(plan: Plan, s: u32, m: u32, n: usize) -> WindowProbe
     ensures { λ r. ⌜ r ≡ windowProbe plan s m n ⌝ }
@@ -38,10 +38,7 @@ pub extern "C" fn probe_window(plan: Plan, s: u32, m: u32, n: usize) -> WindowPr
     if !base::plan_in_range(plan) {
         return NOT_JUDGED;
     }
-    if s == 0 {
-        return NOT_JUDGED;
-    }
-    if n == 0 {
+    if !window_in_range(s, n) {
         return NOT_JUDGED;
     }
     let figure = windows::judge(plan, s, m, n);
@@ -50,6 +47,16 @@ pub extern "C" fn probe_window(plan: Plan, s: u32, m: u32, n: usize) -> WindowPr
         inside: figure.inside,
         class: figure.class,
     }
+}
+
+// The highest sum of speeds.
+const SPEEDS: u32 = base::limits::TRIP as u32 * base::limits::SPEED as u32;
+
+// Whether a trip can have a window of this sum of speeds and length.
+fn window_in_range(s: u32, n: usize) -> bool
+    ensures { λ r. ⌜ r ≡ windowInRange s n ⌝ }
+{
+    (1 <= n) & (n <= base::limits::TRIP) & (1 <= s) & (s <= SPEEDS)
 }
 
 const NOT_JUDGED: WindowProbe = WindowProbe {

@@ -1,3 +1,2 @@
--- The value at which a slice is split, and what a split promises.
-pub mod Split
-pub mod Pivot
+-- What the private steps of the ranking promise.
+pub mod Inside

@@ -1,4 +1,5 @@
--- The definitions of a reader of a stream that arrives in blocks: what feeding it does, and which readers the calls make.
+-- The definitions of a reader of a stream that arrives in blocks: where it stands, what feeding and ending it mean, and which readers a stream leads to.
+pub mod Reader
+pub mod Inside
 pub mod Blocks
-pub mod Made
 pub mod Reached

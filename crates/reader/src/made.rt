@@ -1,4 +1,5 @@
-// Which readers the calls make: specs/Made.antt says it, test by test.
+// Which readers the calls make: specs/Inside.antt says it, test by test, and
+// specs/Reached.antt what it comes to.
 
 use crate::Reader;
 use base::Plan;
@@ -10,8 +11,9 @@ ghost use Prim.Native.Nat.{_≤_};
 ghost use lib.ListN.{drop};
 ghost use Rattle.base.specs.Limits.{tripLimit};
 ghost use Rattle.base.specs.Words.{pick};
-ghost use Rattle.reader.specs.Blocks.{planBefore};
-ghost use Rattle.reader.specs.Made.{isNoPlan, madeBefore, offsetMade, madeAfter, standingMade, allZero, carryMade, numberBefore, numberAfter, settledMade, wasMade};
+ghost use Rattle.item.specs.Format.{planKind, itemLength};
+ghost use Rattle.reader.specs.Reader.{planBefore};
+ghost use Rattle.reader.specs.Inside.{isNoPlan, madeBefore, canEnd, madeAfter, standingMade, allZero, carryMade, numberBefore, numberAfter, settledMade, wasMade};
 
 // Whether the calls make a reader.
 pub fn was_made(reader: Reader) -> bool
@@ -73,12 +75,13 @@ fn made_after(reader: Reader) -> bool
     base::plan_in_range(plan) & offset_made(seconds, at)
 }
 
-// Whether a plan and so many seconds, with values or missing, can end at `at`.
+// Whether a plan and so many seconds can end at `at`: a second has one of two lengths, so they end past
+// as many of the shortest by a multiple of the difference.
 fn offset_made(seconds: usize, at: usize) -> bool
     requires { ⌜ seconds ≤ tripLimit ⌝ }
-    ensures { λ r. ⌜ r ≡ offsetMade seconds at ⌝ }
+    ensures { λ r. ⌜ r ≡ canEnd seconds (itemLength planKind) at ⌝ }
 {
-    let least = kind::PLAN_SIZE + seconds;
+    let least = kind::PLAN_SIZE + kind::MISSING_SIZE * seconds;
     if at < least {
         return false;
     }

@@ -1,3 +1,3 @@
--- The definitions of the sixteen reasons, as tests and as rules.
+-- The definitions of the sixteen reasons, and their numbers.
+pub mod Numbers
 pub mod Reasons
-pub mod Rules

@@ -12,7 +12,7 @@ use lib.Seq.{sets-eq}
 use borrow.Author.Tests.{le-leb, lt-leb, leb-true, leb-false}
 use Rattle.base.specs.Words.{pick, withFront}
 use Rattle.report.specs.Lines.{lengthWritten, bufferWritten}
-use Rattle.text.specs.Steps.{Wrote}
+use Rattle.text.specs.Inside.{Wrote}
 
 -- a text that fits, written at the front
 pub fits-length : (text b : List ℕ) → length text ≤ length b → lengthWritten text b ≡ length text

@@ -7,7 +7,7 @@ ghost use lib.Dec.{leb};
 ghost use lib.ListN.{length};
 ghost use Rattle.text.specs.Text.{decimal};
 ghost use Rattle.report.specs.Lines.{countLines, classLines, reasonsLine, judgedText, refusalText, lengthWritten, bufferWritten};
-ghost use Rattle.text.specs.Steps.{wordDigits, Wrote};
+ghost use Rattle.text.specs.Inside.{wordDigits, Wrote};
 
 // A class line: the windows of a class, and those of them that are inside.
 pub struct ClassLine {

@@ -3,7 +3,6 @@ pub mod Numbering
 pub mod Numbers
 pub mod Offsets
 pub mod Walking
-pub mod RowsAt
 pub mod Answers
 pub mod Lanes
 pub mod Writing

@@ -7,21 +7,21 @@ use mathlib.Core.List.{List}
 use mathlib.Core.Logic.{_↔_}
 use native.Mathlib.Nat.{zero-add, suc-add}
 use native.Mathlib.Omega.{arith}
-use lib.Dec.{ltb, eqb}
+use lib.Dec.{leb, ltb, eqb}
 use lib.ListN.{length, getD, set, length-set}
 use lib.Seq.{getD-set-same, getD-set-other}
 use borrow.Author.Tests.{ltb-true, ltb-false, eqb-true, eqb-false}
-use Rattle.base.specs.Words.{pick, sumFirst}
+use Rattle.base.specs.Words.{pick, sum, sumFirst}
 use Rattle.base.proofs.Choice.{both-ways}
+use Rattle.base.proofs.HowMany.{how-many-least, how-many-most}
 use Rattle.sweep.specs.declared.SweepState.{SweepState}
-use Rattle.sweep.specs.Sweep.{beginning, closes, afterClosing, afterTaking, isOver, move, moveEnds, afterMoves, movesMade, endsAfter}
-use Rattle.sweep.specs.Window.{massFrom, hasWindow, windowEnd, windows}
-use Rattle.sweep.specs.Runs.{IsWindow, Written}
-use Rattle.sweep.specs.Inside.{Standing}
+use Rattle.sweep.specs.Sweep.{beginning, afterClosing, afterTaking, isOver, move, moveEnds, afterMoves, movesMade, endsAfter}
+use Rattle.sweep.specs.Window.{fromTo, hasWindow, windowEnd, windows}
+use Rattle.sweep.specs.Runs.{IsWindow, Written, Standing}
 use Rattle.sweep.proofs.Prefix.{first-rises}
 use Rattle.sweep.proofs.Moves.{Next, next, begins, open-window, stands-move, stands-after}
 use Rattle.sweep.proofs.Reached.{moves-counted, made-most, fewer-over, over-facts}
-use Rattle.sweep.proofs.Windows.{window-is, window-has, window-by-sums, can-by-sums, has-none, mass-from, counted, at-least}
+use Rattle.sweep.proofs.Windows.{window-is, window-has, window-by-sums, can-by-sums, has-none, sum-from-to}
 
 module _ (reference : ℕ) (co2 : List ℕ) where
   -- the numbers of a sweep that is over
@@ -50,26 +50,27 @@ module _ (reference : ℕ) (co2 : List ℕ) (positive : 1 ≤ reference) where
 
   -- so no more are dropped than there are windows
   pub dropped-most : {s : SweepState} → Standing reference co2 s → s .dropped ≤ windows reference co2
-  dropped-most {s} st = at-least reference co2 (s .dropped) (length co2) (dropped-have st) (omega (arith, st .order, st .within))
+  dropped-most {s} st =
+      how-many-least (hasWindow reference co2) (s .dropped) (length co2) (omega (arith, st .order, st .within)) (dropped-have st)
 
   -- once it is over, no second that is left has a window
   pub left-none : {s : SweepState} → Standing reference co2 s → isOver reference co2 s ≡ true → (f : ℕ) → s .dropped ≤ f → hasWindow reference co2 f ≡ false
   left-none {s} st o f h = has-none reference co2 f light
     where
-      light : (k : ℕ) → f + k < length co2 → massFrom co2 f k < reference
-      light k l =
+      light : (l : ℕ) → f ≤ l → l < length co2 → sum (fromTo f l co2) < reference
+      light l start within =
           let facts = over-facts reference co2 s o in
-          let up = first-rises co2 (f + suc k) (s .taken) (omega (arith, facts .1)) in
+          let up = first-rises co2 (suc l) (s .taken) (omega (arith, facts .1)) in
           let low = first-rises co2 (s .dropped) f h in
-          omega (arith, mass-from co2 f k, st .weighed, facts .0)
+          omega (arith, sum-from-to co2 f l start, st .weighed, facts .0)
 
   pub ended : {s : SweepState} → Standing reference co2 s → isOver reference co2 s ≡ true → Ended reference co2 s
   ended {s} st o =
       let facts = over-facts reference co2 s o in
-      let all : windows reference co2 ≡ s .dropped = counted reference co2 (s .dropped) (length co2) (dropped-have st) (left-none st o) (omega (arith, st .order, st .within)) in
+      let all : s .dropped ≡ windows reference co2 = omega (arith, dropped-most st, how-many-most (hasWindow reference co2) (s .dropped) (length co2) (left-none st o)) in
       record {
         taken = omega (arith, st .within, facts .1);
-        dropped = sym all;
+        dropped = all;
         moves = omega (arith, st .counted, st .within, facts .1);
       }
 
@@ -82,7 +83,7 @@ module _ (reference : ℕ) (co2 : List ℕ) (positive : 1 ≤ reference) where
           let more : windows reference co2 ≤ s .dropped = omega (arith, st .counted, st .within) in
           let some : s .dropped < s .taken = open-window reference co2 positive st l in
           let has : (f : ℕ) → f < suc (s .dropped) → hasWindow reference co2 f ≡ true = λ f (k : f < suc (s .dropped)). window-at f (ltb f (s .dropped)) refl k l in
-          let most = at-least reference co2 (suc (s .dropped)) (length co2) has (omega (arith, st .within)) in
+          let most = how-many-least (hasWindow reference co2) (suc (s .dropped)) (length co2) (omega (arith, st .within)) has in
           absurd (omega arith)
         where
           window-at : (f : ℕ) (t : Bool) → ltb f (s .dropped) ≡ t → f < suc (s .dropped) → reference ≤ s .mass → hasWindow reference co2 f ≡ true
@@ -173,7 +174,7 @@ module _ (reference : ℕ) (co2 : List ℕ) (positive : 1 ≤ reference) where
   move-length : (s : SweepState) (before : List ℕ) → length (moveEnds reference co2 s before) ≡ length before
   unfolding moveEnds
   move-length s before =
-      both-ways (λ (l : List ℕ). length l ≡ length before) (closes reference s) (length-set before (s .dropped) (s .taken)) refl
+      both-ways (λ (l : List ℕ). length l ≡ length before) (leb reference (s .mass)) (length-set before (s .dropped) (s .taken)) refl
 
   -- what a run writes
   pub written : (k : ℕ) (s : SweepState) (before : List ℕ) → Standing reference co2 s → length co2 ≤ length before → Written reference co2 s (afterMoves reference co2 k s) before (endsAfter reference co2 k s before)

@@ -11,7 +11,8 @@ use borrow.Author.Tests.{ne-eqb, eqb-false, leb-true, leb-false, ltb-true, ltb-f
 use Rattle.base.specs.Words.{sum, sumFirst}
 use Rattle.sweep.specs.declared.SweepState.{SweepState}
 use Rattle.sweep.specs.Sweep.{isReached}
-use Rattle.sweep.specs.Inside.{Standing, closedRightly, neededLast}
+use Rattle.sweep.specs.Runs.{Standing}
+use Rattle.sweep.specs.Inside.{closedRightly, neededLast}
 use Rattle.sweep.proofs.Prefix.{first-rises, first-last, part-sum}
 use Rattle.sweep.proofs.Reached.{stands-reached, astray}
 

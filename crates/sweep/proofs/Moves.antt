@@ -11,8 +11,9 @@ use Rattle.base.proofs.Tests.{never-both}
 use Rattle.base.specs.Words.{sumFirst}
 use Rattle.base.proofs.Sums.{sum-first-more}
 use Rattle.sweep.specs.declared.SweepState.{SweepState}
-use Rattle.sweep.specs.Sweep.{beginning, afterClosing, afterTaking, isOver, move, moveEnds, afterMoves, movesMade, endsAfter}
-use Rattle.sweep.specs.Inside.{Measured, Standing, Ready}
+use Rattle.sweep.specs.Sweep.{beginning, afterClosing, afterTaking, isOver, move, moveEnds, afterMoves, endsAfter}
+use Rattle.sweep.specs.Runs.{Standing}
+use Rattle.sweep.specs.Inside.{Measured, Ready}
 use Rattle.sweep.proofs.Prefix.{first-rises, first-within}
 
 one-less : (n : ℕ) → suc n - 1 ≡ n
@@ -117,7 +118,7 @@ module _ (reference : ℕ) (co2 : List ℕ) where
   unfolding endsAfter
   ends-first (suc budget) s ends h = rw (one-less budget)
 
-  -- a sweep that is over stays as it is, its ends too, and makes no move
+  -- a sweep that is over stays as it is, its ends too
   module _ (s : SweepState) (over : isOver reference co2 s ≡ true) where
     pub over-rests : move reference co2 s ≡ s
     over-rests = go (next s)
@@ -144,11 +145,6 @@ module _ (reference : ℕ) (co2 : List ℕ) where
     unfolding endsAfter
     over-ends zero ends = refl
     over-ends (suc budget) ends = rw (over-rests, over-keeps ends) (over-ends budget ends)
-
-    pub over-made : (budget : ℕ) → movesMade reference co2 budget s ≡ 0
-    unfolding movesMade
-    over-made zero = refl
-    over-made (suc budget) = rw over
 
   -- the mass is at most that of all kept seconds, which fits a u32
   pub mass-fits : {s : SweepState} → Measured co2 → Standing reference co2 s → s .mass < 2 ^ 32

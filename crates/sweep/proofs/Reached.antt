@@ -7,11 +7,11 @@ use native.Mathlib.Omega.{arith}
 use lib.Dec.{leb, ltb, eqb}
 use lib.ListN.{length}
 use borrow.Author.Tests.{eqb-true, ltb-true, leb-true}
-use Rattle.base.specs.Words.{pick, sumFirst}
+use Rattle.base.specs.Words.{pick, sumFirst, firstWhere}
 use Rattle.base.proofs.Choice.{eqb-self}
 use Rattle.sweep.specs.declared.SweepState.{SweepState}
 use Rattle.sweep.specs.Sweep.{beginning, isOver, move, afterMoves, movesMade, isReached}
-use Rattle.sweep.specs.Inside.{Standing}
+use Rattle.sweep.specs.Runs.{Standing}
 use Rattle.sweep.proofs.Prefix.{first-rises}
 use Rattle.sweep.proofs.Moves.{Next, next, begins, stands-after, over-after}
 
@@ -22,7 +22,7 @@ same-state s t a b c d = λ i. record { taken = a i; dropped = b i; mass = c i; 
 module _ (reference : ℕ) (co2 : List ℕ) where
   -- a run from s counts each move that it makes
   pub moves-counted : (budget : ℕ) (s : SweepState) → afterMoves reference co2 budget s .moves ≡ s .moves + movesMade reference co2 budget s
-  unfolding afterMoves movesMade
+  unfolding afterMoves movesMade firstWhere
   moves-counted zero s = omega arith
   moves-counted (suc budget) s = go (next reference co2 s) (moves-counted budget (move reference co2 s))
     where
@@ -33,7 +33,7 @@ module _ (reference : ℕ) (co2 : List ℕ) where
 
   -- it makes no more than the budget
   pub made-most : (budget : ℕ) (s : SweepState) → movesMade reference co2 budget s ≤ budget
-  unfolding movesMade
+  unfolding movesMade afterMoves firstWhere
   made-most zero s = omega arith
   made-most (suc budget) s = go (isOver reference co2 s) (made-most budget (move reference co2 s))
     where
@@ -43,7 +43,7 @@ module _ (reference : ℕ) (co2 : List ℕ) where
 
   -- and fewer only because the sweep is over
   pub fewer-over : (budget : ℕ) (s : SweepState) → movesMade reference co2 budget s < budget → isOver reference co2 (afterMoves reference co2 budget s) ≡ true
-  unfolding movesMade afterMoves
+  unfolding movesMade afterMoves firstWhere
   fewer-over zero s h = absurd (omega arith)
   fewer-over (suc budget) s h = go (isOver reference co2 s) refl h (fewer-over budget (move reference co2 s))
     where

@@ -1,20 +1,15 @@
 -- What the definitions of the sweep amount to for its callers: refused exactly when, resumed, run to its end. The laws of windows are in
 -- `Windows`, those of the machine in `Finished`. Assumes nothing.
-use Prim.Native.Nat.{ℕ, _+_, _≤_, _<_}
+use Prim.Native.Nat.{ℕ, _+_, _≤_}
 use mathlib.Core.Path.{_≡_, refl, sym, _∙_, ap}
-use mathlib.Core.Bool.{true, and-eq-true-iff}
+use mathlib.Core.Bool.{true}
 use mathlib.Core.List.{List}
 use mathlib.Core.Logic.{_↔_}
 use native.Mathlib.Omega.{arith}
-use lib.Dec.{eqb, leb}
+use lib.Dec.{eqb}
 use lib.ListN.{length, getD}
-use borrow.Author.Tests.{le-leb, leb-true}
-use Rattle.base.specs.Limits.{tripLimit, co2Most, referenceMost}
-use Rattle.base.specs.Plan.{referenceInRange}
-use Rattle.base.specs.Second.{co2InRange}
 use Rattle.base.specs.Refusal.{accepted}
-use Rattle.base.specs.Words.{pick, firstBad}
-use Rattle.base.proofs.FirstBad.{first-bad-is}
+use Rattle.base.specs.Words.{pick}
 use Rattle.sweep.specs.declared.SweepState.{SweepState}
 use Rattle.sweep.specs.declared.Swept.{Swept}
 use Rattle.sweep.specs.Sweep.{beginning, isOver, afterMoves, movesMade, endsAfter, placeOf, sweepRefusal, runAnswer, refusedAnswer, sweepAnswer, sweepEnds}
@@ -24,7 +19,6 @@ use Rattle.sweep.specs.Runs.{Written, Spent, Resumed, Whole}
 use Rattle.sweep.proofs.Moves.{begins, stands-after}
 use Rattle.sweep.proofs.Reached.{moves-counted, made-most, fewer-over, stands-reached}
 use Rattle.sweep.proofs.Refusals.{outcome, gives, passed, ready, refused-answer, accepted-answer, refused-ends, accepted-ends}
-use Rattle.sweep.proofs.Windows.{windows-most}
 use Rattle.sweep.proofs.Finished.{ended, over-exactly, written, finished-ends, state-composes, ends-compose, moves-compose}
 
 module _ (reference : ℕ) (co2 : List ℕ) (room : ℕ) (s : SweepState) where
@@ -122,6 +116,7 @@ module _ (reference : ℕ) (co2 ends : List ℕ) (s : SweepState) (a b : ℕ) wh
       let second : sweepAnswer reference co2 (length (sweepEnds reference co2 ends s a)) (afterMoves reference co2 a s) b ≡ runAnswer reference co2 (afterMoves reference co2 a s) b = run-answered reference co2 (sweepEnds reference co2 ends s a) (afterMoves reference co2 a s) next-there b in
       let lane-second : sweepEnds reference co2 (sweepEnds reference co2 ends s a) (afterMoves reference co2 a s) b ≡ endsAfter reference co2 b (afterMoves reference co2 a s) (sweepEnds reference co2 ends s a) = run-written reference co2 (sweepEnds reference co2 ends s a) (afterMoves reference co2 a s) next-there b in
       record {
+        refusal = rw (first, second) refl;
         state = rw (first, second, whole) (sym (state-composes reference co2 a b s));
         moves = rw (first, second, whole) (sym (moves-compose reference co2 a b s));
         over = rw (first, second, whole) (ap (λ (v : SweepState). isOver reference co2 v) (sym (state-composes reference co2 a b s)));
@@ -129,11 +124,11 @@ module _ (reference : ℕ) (co2 ends : List ℕ) (s : SweepState) (a b : ℕ) wh
       }
 
 module _ (reference : ℕ) (co2 ends : List ℕ) (budget : ℕ) where
-  pub whole : Accepted reference co2 (length ends) beginning → length co2 + length co2 ≤ budget → Whole reference co2 ends (sweepEnds reference co2 ends beginning budget) (sweepAnswer reference co2 (length ends) beginning budget)
+  pub whole : Accepted reference co2 (length ends) beginning → length co2 + windows reference co2 ≤ budget → Whole reference co2 ends (sweepEnds reference co2 ends beginning budget) (sweepAnswer reference co2 (length ends) beginning budget)
   whole ok enough =
       let positive : 1 ≤ reference = ready reference co2 (length ends) beginning ok .positive in
       let answer = run-answered reference co2 ends beginning ok budget in
-      let over : isOver reference co2 (afterMoves reference co2 budget beginning) ≡ true = over-exactly reference co2 positive budget .1 (omega (arith, windows-most reference co2)) in
+      let over : isOver reference co2 (afterMoves reference co2 budget beginning) ≡ true = over-exactly reference co2 positive budget .1 enough in
       let end = ended reference co2 positive (stands-after reference co2 positive budget beginning (begins reference co2)) over in
       record {
         refusal = ap (λ (r : Swept). r .refusal) answer;
@@ -143,16 +138,3 @@ module _ (reference : ℕ) (co2 ends : List ℕ) (budget : ℕ) where
         ends = λ f. ap (λ (l : List ℕ). getD l f 0) (run-written reference co2 ends beginning ok budget) ∙ finished-ends reference co2 positive budget ends (ok .places) over f;
         same-length = only-closed reference co2 ends beginning ok budget .same-length;
       }
-
--- kept lanes in range are accepted from the beginning
-pub accepts-beginning : (reference : ℕ) (co2 : List ℕ) (room : ℕ) → referenceInRange reference ≡ true → length co2 ≤ tripLimit → length co2 ≤ room → ((i : ℕ) → i < length co2 → getD co2 i 0 ≤ co2Most) → Accepted reference co2 room beginning
-accepts-beginning reference co2 room r few places light =
-    let range = and-eq-true-iff (leb 1 reference) (leb reference referenceMost) .0 r in
-    let all : firstBad (λ i. co2InRange (getD co2 i 0)) (length co2) ≡ length co2 = first-bad-is (λ i. co2InRange (getD co2 i 0)) (length co2) (length co2) (record { within = omega arith; before = λ i h. le-leb (getD co2 i 0) co2Most (light i h); there = λ (h : length co2 < length co2). absurd (omega arith) }) in
-    record {
-      reference-in-range = r;
-      few = few;
-      places = places;
-      in-range = omega arith;
-      reached = stands-reached reference co2 (leb-true 1 reference (range .0)) beginning (begins reference co2);
-    }

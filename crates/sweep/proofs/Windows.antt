@@ -1,95 +1,114 @@
 -- What a window is: the shortest run of kept seconds from its first one that reaches the reference. Nothing here speaks of the sweep. Assumes nothing.
-use Prim.Native.Nat.{ℕ, zero, suc, _+_, _-_, _≤_, _<_}
+use Prim.Native.Nat.{ℕ, suc, _+_, _-_, _≤_, _<_}
 use mathlib.Core.Path.{_≡_, refl, sym, _∙_, ap}
-use mathlib.Core.Bool.{Bool, true, false, true≢false}
-use mathlib.Core.List.{List}
+use mathlib.Core.Bool.{Bool, true, false, true≢false, _&&_}
+use mathlib.Core.List.{List, _++_}
 use native.Mathlib.Omega.{arith}
-use lib.Dec.{ltb}
-use lib.ListN.{length}
-use borrow.Author.Tests.{lt-ltb, le-ltb, ltb-true, ltb-false}
-use Rattle.base.specs.Words.{pick, sumFirst, firstBad}
-use Rattle.base.proofs.Choice.{both-ways}
-use Rattle.base.proofs.FirstBad.{IsFirstBad, first-bad, first-bad-is}
-use Rattle.base.proofs.Sums.{sum-part}
-use Rattle.sweep.specs.Window.{massFrom, windowLast, hasWindow, windowsAmong, windows}
+use lib.Dec.{leb}
+use lib.ListN.{length, take, take-append-drop}
+use lib.Seq.{take-take}
+use borrow.Author.Tests.{lt-ltb, le-leb, lt-leb, ltb-true, leb-true, leb-false}
+use Rattle.base.specs.Words.{sum, sumFirst}
+use Rattle.base.proofs.FirstWhere.{IsFirstWhere, first-where}
+use Rattle.base.proofs.HowMany.{how-many-least, how-many-most}
+use Rattle.base.proofs.Search.{finds}
+use Rattle.base.proofs.SumOver.{how-many-at-most}
+use Rattle.base.proofs.Sums.{sum-append}
+use Rattle.base.proofs.Tests.{and-left, and-right, never-both}
+use Rattle.sweep.specs.Window.{fromTo, windowLast, hasWindow, windows}
 use Rattle.sweep.specs.Runs.{IsWindow}
 use Rattle.sweep.proofs.Prefix.{first-rises}
 
--- the sum from f on, by the sums from the front
-pub mass-from : (co2 : List ℕ) (f k : ℕ) → sumFirst f co2 + massFrom co2 f k ≡ sumFirst (f + suc k) co2
-mass-from co2 f k = sym (sum-part f (suc k) co2)
+-- the sum f to l, by the sums from the front
+pub sum-from-to : (co2 : List ℕ) (f l : ℕ) → f ≤ l → sumFirst f co2 + sum (fromTo f l co2) ≡ sumFirst (suc l) co2
+sum-from-to co2 f l h =
+    let whole : sum (take f (take (suc l) co2) ++ fromTo f l co2) ≡ sumFirst (suc l) co2 = ap sum (take-append-drop f (take (suc l) co2)) in
+    let front : sum (take f (take (suc l) co2)) ≡ sumFirst f co2 = ap sum (take-take f (suc l) co2 (omega arith)) in
+    omega (arith, sum-append (take f (take (suc l) co2)) (fromTo f l co2))
 
 module _ (reference : ℕ) (co2 : List ℕ) where
-  first : (f : ℕ) → IsFirstBad (λ k. ltb (massFrom co2 f k) reference) (length co2 - f) (firstBad (λ k. ltb (massFrom co2 f k) reference) (length co2 - f))
-  first f = first-bad (λ k. ltb (massFrom co2 f k) reference) (length co2 - f)
+  -- the test by which a window's end is found
+  abbrev ends : ℕ → ℕ → Bool
+  ends f l = leb f l && leb reference (sum (fromTo f l co2))
+
+  found : (f : ℕ) → IsFirstWhere (ends f) (length co2) (windowLast reference co2 f)
+  unfolding windowLast
+  found f = first-where (ends f) (length co2)
+
+  not-yet : (f k : ℕ) → (f ≤ k → sum (fromTo f k co2) < reference) → ends f k ≡ false
+  not-yet f k light = go (leb f k) refl
+    where
+      go : (t : Bool) → leb f k ≡ t → t && leb reference (sum (fromTo f k co2)) ≡ false
+      go true p = lt-leb reference (sum (fromTo f k co2)) (light (leb-true f k p))
+      go false p = refl
+
+  still-light : (f k : ℕ) → f ≤ k → ends f k ≡ false → sum (fromTo f k co2) < reference
+  still-light f k h e = leb-false reference (sum (fromTo f k co2)) (rw (le-leb f k h) at e)
+
+  there : (f l : ℕ) → f ≤ l → reference ≤ sum (fromTo f l co2) → ends f l ≡ true
+  there f l h r = rw (le-leb f l h) (le-leb reference (sum (fromTo f l co2)) r)
 
   -- each window is the shortest run from its first kept second that reaches the reference
   pub window : (f : ℕ) → hasWindow reference co2 f ≡ true → IsWindow reference co2 f (windowLast reference co2 f)
-  unfolding hasWindow windowLast
+  unfolding hasWindow
   window f h =
-      let run = firstBad (λ k. ltb (massFrom co2 f k) reference) (length co2 - f) in
-      let l : f + run < length co2 = ltb-true (f + run) (length co2) h in
-      let e : f + run - f ≡ run = omega arith in
-      let heavy : reference ≤ massFrom co2 f run = ltb-false (massFrom co2 f run) reference (first f .there (omega arith)) in
+      let l = windowLast reference co2 f in
+      let within : l < length co2 = ltb-true l (length co2) h in
+      let tests : ends f l ≡ true = found f .there within in
       record {
-        from = omega arith;
-        within = l;
-        reaches = rw e heavy;
-        shortest = λ k (s : k < f + run - f). ltb-true (massFrom co2 f k) reference (first f .before k (omega arith));
+        from = leb-true f l (and-left (leb f l) (leb reference (sum (fromTo f l co2))) tests);
+        within = within;
+        reaches = leb-true reference (sum (fromTo f l co2)) (and-right (leb f l) (leb reference (sum (fromTo f l co2))) tests);
+        shortest = λ k s below. still-light f k s (found f .before k below);
       }
 
   -- and there is only one such run
   pub window-is : (f l : ℕ) → IsWindow reference co2 f l → windowLast reference co2 f ≡ l
   unfolding windowLast
   window-is f l w =
-      let run : firstBad (λ k. ltb (massFrom co2 f k) reference) (length co2 - f) ≡ l - f = first-bad-is (λ k. ltb (massFrom co2 f k) reference) (length co2 - f) (l - f) (record { within = omega (arith, w .within); before = λ k h. lt-ltb (massFrom co2 f k) reference (w .shortest k h); there = λ h. le-ltb (massFrom co2 f (l - f)) reference (w .reaches) }) in
-      omega (arith, w .from)
+      finds (ends f) (length co2) l (w .within) (λ k below. not-yet f k (λ s. w .shortest k s below)) (there f l (w .from) (w .reaches))
 
   pub window-has : (f l : ℕ) → IsWindow reference co2 f l → hasWindow reference co2 f ≡ true
   unfolding hasWindow
   window-has f l w = lt-ltb (windowLast reference co2 f) (length co2) (omega (arith, window-is f l w, w .within))
 
   -- every first second that can have a window has one
-  pub can-have : (f k : ℕ) → f + k < length co2 → reference ≤ massFrom co2 f k → hasWindow reference co2 f ≡ true
-  unfolding hasWindow windowLast
-  can-have f k h r =
-      let run = firstBad (λ k. ltb (massFrom co2 f k) reference) (length co2 - f) in
-      let late : k < run → ⊥ = λ l. let light = ltb-true (massFrom co2 f k) reference (first f .before k l) in omega arith in
-      lt-ltb (f + run) (length co2) (omega arith)
+  pub can-have : (f l : ℕ) → f ≤ l → l < length co2 → reference ≤ sum (fromTo f l co2) → hasWindow reference co2 f ≡ true
+  unfolding hasWindow
+  can-have f l h n r =
+      let late : l < windowLast reference co2 f → ⊥ = λ below. never-both (there f l h r) (found f .before l below) in
+      lt-ltb (windowLast reference co2 f) (length co2) (omega arith)
 
   -- where no run reaches the reference there is no window
-  pub has-none : (f : ℕ) → ((k : ℕ) → f + k < length co2 → massFrom co2 f k < reference) → hasWindow reference co2 f ≡ false
+  pub has-none : (f : ℕ) → ((l : ℕ) → f ≤ l → l < length co2 → sum (fromTo f l co2) < reference) → hasWindow reference co2 f ≡ false
   has-none f light = go (hasWindow reference co2 f) refl
     where
       go : (t : Bool) → hasWindow reference co2 f ≡ t → t ≡ false
       go false e = refl
       go true e =
           let w = window f e in
-          let heavy = w .reaches in
-          let less = light (windowLast reference co2 f - f) (omega (arith, w .from, w .within)) in
-          absurd (omega arith)
+          absurd (omega (arith, w .reaches, light (windowLast reference co2 f) (w .from) (w .within)))
 
   -- a window by the sums from the front
   pub window-by-sums : (f l : ℕ) → f ≤ l → l < length co2 → reference + sumFirst f co2 ≤ sumFirst (suc l) co2 → ((k : ℕ) → k < l → sumFirst (suc k) co2 < reference + sumFirst f co2) → IsWindow reference co2 f l
   window-by-sums f l h n reaches light =
-      let e : f + suc (l - f) ≡ suc l = omega arith in
-      let up : sumFirst (f + suc (l - f)) co2 ≡ sumFirst (suc l) co2 = ap (λ (k : ℕ). sumFirst k co2) e in
-      let short : (k : ℕ) → k < l - f → massFrom co2 f k < reference = λ k (s : k < l - f). let q : f + suc k ≡ suc (f + k) = omega arith in let p : sumFirst (f + suc k) co2 ≡ sumFirst (suc (f + k)) co2 = ap (λ (j : ℕ). sumFirst j co2) q in omega (arith, mass-from co2 f k, light (f + k) (omega arith)) in
-      record { from = h; within = n; reaches = omega (arith, mass-from co2 f (l - f)); shortest = short }
+      record {
+        from = h;
+        within = n;
+        reaches = omega (arith, sum-from-to co2 f l h);
+        shortest = λ k (s : f ≤ k) (below : k < l). omega (arith, sum-from-to co2 f k s, light k below);
+      }
 
   -- a window reaches the reference, by the sums from the front
   pub reaches-by-sums : (f l : ℕ) → IsWindow reference co2 f l → reference + sumFirst f co2 ≤ sumFirst (suc l) co2
-  reaches-by-sums f l w =
-      let e : f + suc (l - f) ≡ suc l = omega (arith, w .from) in
-      let up : sumFirst (f + suc (l - f)) co2 ≡ sumFirst (suc l) co2 = ap (λ (k : ℕ). sumFirst k co2) e in
-      omega (arith, mass-from co2 f (l - f), w .reaches)
+  reaches-by-sums f l w = omega (arith, sum-from-to co2 f l (w .from), w .reaches)
 
   -- f can have a window where the sums from the front say so
   pub can-by-sums : (f l : ℕ) → f < l → l ≤ length co2 → reference + sumFirst f co2 ≤ sumFirst l co2 → hasWindow reference co2 f ≡ true
   can-by-sums f l h n r =
-      let e : f + suc (l - suc f) ≡ l = omega arith in
-      let up : sumFirst (f + suc (l - suc f)) co2 ≡ sumFirst l co2 = ap (λ (k : ℕ). sumFirst k co2) e in
-      can-have f (l - suc f) (omega arith) (omega (arith, mass-from co2 f (l - suc f)))
+      let e : suc (l - 1) ≡ l = omega arith in
+      let up : sumFirst (suc (l - 1)) co2 ≡ sumFirst l co2 = ap (λ (k : ℕ). sumFirst k co2) e in
+      can-have f (l - 1) (omega arith) (omega arith) (omega (arith, sum-from-to co2 f (l - 1) (omega arith)))
 
   -- no window starts at the end or later
   pub starts-within : (f : ℕ) → hasWindow reference co2 f ≡ true → f < length co2
@@ -106,65 +125,14 @@ module _ (reference : ℕ) (co2 : List ℕ) where
     -- ends never step back
     pub ends-rise : windowLast reference co2 f ≤ windowLast reference co2 g
     ends-rise =
+        let last = windowLast reference co2 g in
         let w = window g later in
         let v = window f earlier-has in
-        let low = first-rises co2 f g order in
-        let reach = reaches-by-sums g (windowLast reference co2 g) w in
-        let shift : f + suc (windowLast reference co2 g - f) ≡ suc (windowLast reference co2 g) = omega (arith, w .from) in
-        let up : sumFirst (f + suc (windowLast reference co2 g - f)) co2 ≡ sumFirst (suc (windowLast reference co2 g)) co2 = ap (λ (k : ℕ). sumFirst k co2) shift in
-        let back : windowLast reference co2 g < windowLast reference co2 f → ⊥ = λ l. let light = v .shortest (windowLast reference co2 g - f) (omega (arith, w .from)) in omega (arith, mass-from co2 f (windowLast reference co2 g - f)) in
+        let start : f ≤ last = omega (arith, w .from) in
+        let back : last < windowLast reference co2 f → ⊥ = λ below. omega (arith, v .shortest last start below, sum-from-to co2 f last start, first-rises co2 f g order, reaches-by-sums g last w) in
         omega arith
 
   -- ---- how many there are
-  -- where each of the first m seconds has a window, there are m among them
-  pub all-have : (m : ℕ) → ((f : ℕ) → f < m → hasWindow reference co2 f ≡ true) → windowsAmong reference co2 m ≡ m
-  unfolding windowsAmong
-  all-have zero has = refl
-  all-have (suc m) has = rw (has m (omega arith), all-have m (λ f (h : f < m). has f (omega arith)))
-
-  -- where exactly the first d of n seconds have a window, there are d windows among them
-  pub counted : (d n : ℕ) → ((f : ℕ) → f < d → hasWindow reference co2 f ≡ true) → ((f : ℕ) → d ≤ f → hasWindow reference co2 f ≡ false) → d ≤ n → windowsAmong reference co2 n ≡ d
-  unfolding windowsAmong
-  counted d zero has none-after h = omega arith
-  counted d (suc n) has none-after h = go (ltb n d) refl (counted d n has none-after)
-    where
-      go : (t : Bool) → ltb n d ≡ t → (d ≤ n → windowsAmong reference co2 n ≡ d) → pick (hasWindow reference co2 n) (suc (windowsAmong reference co2 n)) (windowsAmong reference co2 n) ≡ d
-      go true e ih =
-          let l : n < d = ltb-true n d e in
-          rw (has n l, all-have n (λ f (k : f < n). has f (omega arith))) (omega arith)
-      go false e ih =
-          let l : d ≤ n = ltb-false n d e in
-          rw (none-after n l) (ih l)
-
-  -- a second more has no fewer windows
-  no-fewer : (n : ℕ) → windowsAmong reference co2 n ≤ windowsAmong reference co2 (suc n)
-  unfolding windowsAmong
-  no-fewer n = both-ways (λ (w : ℕ). windowsAmong reference co2 n ≤ w) (hasWindow reference co2 n) (omega arith) (omega arith)
-
-  -- so many seconds at the front that have one, so many windows at least
-  pub at-least : (d n : ℕ) → ((f : ℕ) → f < d → hasWindow reference co2 f ≡ true) → d ≤ n → d ≤ windowsAmong reference co2 n
-  at-least d zero has h = omega arith
-  at-least d (suc n) has h = go (ltb n d) refl (at-least d n has)
-    where
-      go : (t : Bool) → ltb n d ≡ t → (d ≤ n → d ≤ windowsAmong reference co2 n) → d ≤ windowsAmong reference co2 (suc n)
-      go true e ih =
-          let whole : d ≡ suc n = omega (arith, ltb-true n d e) in
-          let all : windowsAmong reference co2 (suc n) ≡ suc n = all-have (suc n) (λ f (k : f < suc n). has f (omega arith)) in
-          omega arith
-      go false e ih = omega (arith, ih (ltb-false n d e), no-fewer n)
-
-  -- there are no more windows than seconds before the first that starts none
-  at-most : (d n : ℕ) → ((f : ℕ) → d ≤ f → hasWindow reference co2 f ≡ false) → (windowsAmong reference co2 n ≤ d) × (windowsAmong reference co2 n ≤ n)
-  unfolding windowsAmong
-  at-most d zero none-after = (omega arith, omega arith)
-  at-most d (suc n) none-after = go (ltb n d) refl (at-most d n none-after)
-    where
-      go : (t : Bool) → ltb n d ≡ t → (windowsAmong reference co2 n ≤ d) × (windowsAmong reference co2 n ≤ n) → (pick (hasWindow reference co2 n) (suc (windowsAmong reference co2 n)) (windowsAmong reference co2 n) ≤ d) × (pick (hasWindow reference co2 n) (suc (windowsAmong reference co2 n)) (windowsAmong reference co2 n) ≤ suc n)
-      go true e ih =
-          let l : n < d = ltb-true n d e in
-          both-ways (λ (w : ℕ). (w ≤ d) × (w ≤ suc n)) (hasWindow reference co2 n) (omega arith) (omega arith)
-      go false e ih = rw (none-after n (ltb-false n d e)) (omega arith)
-
   -- the windows are those of the first seconds: as many as there are windows
   pub first-have : 1 ≤ reference → (f : ℕ) → f < windows reference co2 → hasWindow reference co2 f ≡ true
   first-have positive f h = go (hasWindow reference co2 f) refl
@@ -178,7 +146,7 @@ module _ (reference : ℕ) (co2 : List ℕ) where
 
       go : (t : Bool) → hasWindow reference co2 f ≡ t → t ≡ true
       go true e = refl
-      go false e = absurd (omega (arith, at-most f (length co2) (after e) .0))
+      go false e = absurd (omega (arith, how-many-most (hasWindow reference co2) f (length co2) (after e)))
 
   pub later-none : 1 ≤ reference → (f : ℕ) → windows reference co2 ≤ f → hasWindow reference co2 f ≡ false
   later-none positive f h = go (hasWindow reference co2 f) refl
@@ -187,9 +155,8 @@ module _ (reference : ℕ) (co2 : List ℕ) where
       go false e = refl
       go true e =
           let all : (g : ℕ) → g < suc f → hasWindow reference co2 g ≡ true = λ g (k : g < suc f). earlier-has positive g f (omega arith) e in
-          let more = at-least (suc f) (length co2) all (omega (arith, starts-within f e)) in
-          absurd (omega arith)
+          absurd (omega (arith, how-many-least (hasWindow reference co2) (suc f) (length co2) (omega (arith, starts-within f e)) all))
 
   -- no more windows than kept seconds
   pub windows-most : windows reference co2 ≤ length co2
-  windows-most = at-most (length co2) (length co2) (λ f (l : length co2 ≤ f). has-none f (λ k (m : f + k < length co2). absurd (omega arith))) .0
+  windows-most = how-many-at-most (hasWindow reference co2) (length co2)

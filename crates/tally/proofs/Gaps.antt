@@ -1,17 +1,19 @@
 -- What the longest gap says: over k missing in a row. Assumes nothing.
-use Prim.Native.Nat.{ℕ, zero, suc, _+_, _-_, _≤_, _<_}
+use Prim.Native.Nat.{ℕ, zero, suc, _+_, _-_, _≤_, _<_, max}
 use mathlib.Core.Path.{_≡_, refl}
 use mathlib.Core.Bool.{Bool, true, false}
 use mathlib.Core.List.{List}
 use native.Mathlib.Nat.{add-suc}
 use native.Mathlib.Omega.{arith}
-use borrow.Author.Tests.{ltb-true, ltb-false, eqb-true, eq-eqb}
+use borrow.Author.Tests.{ltb-true, ltb-false}
 use lib.Dec.{ltb, eqb}
 use lib.ListN.{getD}
 use Rattle.base.specs.Second.{missing}
 use Rattle.base.specs.Words.{pick, afterFirst}
 use Rattle.tally.specs.Facts.{Gap}
-use Rattle.tally.specs.Counts.{larger, gapWith, gapAfter, longestGap}
+use Rattle.tally.specs.Sets.{isMissing}
+use Rattle.tally.specs.Counts.{gapAfter, longestGap}
+use Rattle.tally.specs.Inside.{gapWith}
 
 -- a gap of more than k missing seconds that ends the first so many seconds
 record LongAt (states : List ℕ) (n k : ℕ) : Type 0 where
@@ -19,37 +21,22 @@ record LongAt (states : List ℕ) (n k : ℕ) : Type 0 where
   within : ending ≤ n
   long : k < gapAfter states ending
 
--- the larger of two is one of them, and at least each
-larger-left : (a b : ℕ) → a ≤ larger a b
-larger-left a b = go (ltb a b) refl
-  where
-    go : (t : Bool) → ltb a b ≡ t → a ≤ pick t b a
-    go true q = omega (arith, ltb-true a b q)
-    go false q = omega arith
-
-larger-right : (a b : ℕ) → b ≤ larger a b
-larger-right a b = go (ltb a b) refl
-  where
-    go : (t : Bool) → ltb a b ≡ t → b ≤ pick t b a
-    go true q = omega arith
-    go false q = omega (arith, ltb-false a b q)
-
 module _ (states : List ℕ) where
   -- the gap that ends the first i seconds is of missing seconds
-  gap-missing : (i : ℕ) → (gapAfter states i ≤ i) × ((k : ℕ) → i < k + suc (gapAfter states i) → k < i → getD states k 0 ≡ missing)
+  gap-missing : (i : ℕ) → (gapAfter states i ≤ i) × ((k : ℕ) → i < k + suc (gapAfter states i) → k < i → isMissing states k ≡ true)
   unfolding gapAfter afterFirst
   gap-missing zero = (omega arith, λ k h (none : k < 0). absurd (omega arith))
   gap-missing (suc i) = go (eqb (getD states i 0) missing) refl (gap-missing i)
     where
-      go : (t : Bool) → eqb (getD states i 0) missing ≡ t → (gapAfter states i ≤ i) × ((k : ℕ) → i < k + suc (gapAfter states i) → k < i → getD states k 0 ≡ missing) → (pick t (gapAfter states i + 1) 0 ≤ suc i) × ((k : ℕ) → suc i < k + suc (pick t (gapAfter states i + 1) 0) → k < suc i → getD states k 0 ≡ missing)
+      go : (t : Bool) → eqb (getD states i 0) missing ≡ t → (gapAfter states i ≤ i) × ((k : ℕ) → i < k + suc (gapAfter states i) → k < i → isMissing states k ≡ true) → (pick t (gapAfter states i + 1) 0 ≤ suc i) × ((k : ℕ) → suc i < k + suc (pick t (gapAfter states i + 1) 0) → k < suc i → isMissing states k ≡ true)
       go false q before = (omega arith, λ k (h : suc i < k + 1) (below : k < suc i). absurd (omega arith))
       go true q before = (omega (arith, before .0), λ k (h : suc i < k + suc (gapAfter states i + 1)) (below : k < suc i). at k h below (ltb k i) refl)
         where
-          at : (k : ℕ) → suc i < k + suc (gapAfter states i + 1) → k < suc i → (s : Bool) → ltb k i ≡ s → getD states k 0 ≡ missing
+          at : (k : ℕ) → suc i < k + suc (gapAfter states i + 1) → k < suc i → (s : Bool) → ltb k i ≡ s → isMissing states k ≡ true
           at k h below true s = before .1 k (omega arith) (ltb-true k i s)
           at k h below false s =
               let same : k ≡ i = omega (arith, ltb-false k i s) in
-              rw same (eqb-true _ _ q)
+              rw same q
 
   pub gap-at-most : (i : ℕ) → gapAfter states i ≤ i
   gap-at-most i = gap-missing i .0
@@ -66,15 +53,15 @@ module _ (states : List ℕ) where
   unfolding longestGap afterFirst
   longest-none = refl
 
-  longest-step : (i : ℕ) → longestGap states (suc i) ≡ larger (longestGap states i) (gapAfter states (suc i))
+  longest-step : (i : ℕ) → longestGap states (suc i) ≡ max (longestGap states i) (gapAfter states (suc i))
   unfolding longestGap afterFirst
   longest-step i = refl
 
   -- a gap found is as long as the missing seconds behind it
-  gap-at-least : (f j : ℕ) → ((k : ℕ) → k < j → getD states (f + k) 0 ≡ missing) → j ≤ gapAfter states (f + j)
+  gap-at-least : (f j : ℕ) → ((k : ℕ) → k < j → isMissing states (f + k) ≡ true) → j ≤ gapAfter states (f + j)
   gap-at-least f zero all = omega arith
   gap-at-least f (suc j) all =
-      let here : eqb (getD states (f + j) 0) missing ≡ true = eq-eqb _ _ (all j (omega arith)) in
+      let here : isMissing states (f + j) ≡ true = all j (omega arith) in
       rw (add-suc f j, gap-step (f + j), here) (omega (arith, gap-at-least f j (λ k (h : k < j). all k (omega arith))))
 
   -- the longest gap is as long as each
@@ -86,21 +73,21 @@ module _ (states : List ℕ) where
       go : (t : Bool) → ltb n i ≡ t → (i ≤ n → gapAfter states i ≤ longestGap states n) → gapAfter states i ≤ longestGap states (suc n)
       go true q before =
           let same : i ≡ suc n = omega (arith, ltb-true n i q) in
-          rw (same, longest-step n) (larger-right (longestGap states n) (gapAfter states (suc n)))
+          rw (same, longest-step n) (omega arith)
       go false q before =
           rw (longest-step n)
-          (omega (arith, before (ltb-false n i q), larger-left (longestGap states n) (gapAfter states (suc n))))
+          (omega (arith, before (ltb-false n i q)))
 
   -- and is one of them
   longest-is : (k n : ℕ) → k < longestGap states n → LongAt states n k
   longest-is k zero h = absurd (omega (arith, longest-none, h))
   longest-is k (suc n) h =
-      go (ltb (longestGap states n) (gapAfter states (suc n))) (rw (longest-step n) at h) (longest-is k n)
+      go (ltb (longestGap states n) (gapAfter states (suc n))) refl (rw (longest-step n) at h) (longest-is k n)
     where
-      go : (t : Bool) → k < pick t (gapAfter states (suc n)) (longestGap states n) → (k < longestGap states n → LongAt states n k) → LongAt states (suc n) k
-      go true long before = record { ending = suc n; within = omega arith; long = long }
-      go false long before =
-          let there : LongAt states n k = before long in
+      go : (t : Bool) → ltb (longestGap states n) (gapAfter states (suc n)) ≡ t → k < max (longestGap states n) (gapAfter states (suc n)) → (k < longestGap states n → LongAt states n k) → LongAt states (suc n) k
+      go true q long before = record { ending = suc n; within = omega arith; long = omega (arith, ltb-true (longestGap states n) (gapAfter states (suc n)) q) }
+      go false q long before =
+          let there : LongAt states n k = before (omega (arith, ltb-false (longestGap states n) (gapAfter states (suc n)) q)) in
           record { ending = there .ending; within = omega (arith, there .within); long = there .long }
 
   -- over k missing in a row, exactly when the longest gap is above k

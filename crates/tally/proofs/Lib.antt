@@ -1,5 +1,4 @@
 -- The laws of the tallies and counts.
-pub mod Sums
 pub mod Tallies
 pub mod Seconds
 pub mod Gaps

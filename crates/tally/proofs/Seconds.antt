@@ -1,5 +1,5 @@
 -- Laws of the counts: one second more, and how large they grow. Assumes nothing.
-use Prim.Native.Nat.{ℕ, suc, _+_, _≤_}
+use Prim.Native.Nat.{ℕ, suc, _+_, _≤_, max}
 use mathlib.Core.Path.{_≡_, refl, sym, _∙_, ap}
 use mathlib.Core.Bool.{Bool, true, false, _&&_, and-false}
 use mathlib.Core.List.{List}
@@ -10,22 +10,24 @@ use lib.Dec.{leb, ltb, eqb}
 use lib.ListN.{getD}
 use Rattle.base.specs.Limits.{tripLimit}
 use Rattle.base.specs.Roads.{urban}
-use Rattle.base.specs.Words.{afterFirst}
+use Rattle.base.specs.Words.{afterFirst, sumOver}
 use Rattle.base.proofs.Seconds.{after-more}
 use Rattle.second.specs.Bins.{binOf}
-use Rattle.tally.specs.Sets.{sumOver, isMissing, isAbove}
-use Rattle.tally.specs.Counts.{larger, gapWith, gapAfter, longestGap, isSlowUrban, countsAfter, countsWith, Few}
-use Rattle.tally.proofs.Sums.{sum-over-more, how-many-at-most}
+use Rattle.tally.specs.Numbers.{slowBelow, fastAbove, fasterAbove, fastestAbove}
+use Rattle.tally.specs.Sets.{isMissing, isSlowUrban, isAbove}
+use Rattle.tally.specs.Counts.{gapAfter, longestGap, countsAfter}
+use Rattle.tally.specs.Inside.{gapWith, countsWith, Few}
+use Rattle.base.proofs.SumOver.{sum-over-more, how-many-at-most}
 
--- a second slower than 100 is urban
-slow-is-urban : (present : Bool) (speed : ℕ) → present && eqb (binOf speed) urban && ltb speed 100 ≡ present && ltb speed 100
+-- a slow second is urban
+slow-is-urban : (present : Bool) (speed : ℕ) → present && eqb (binOf speed) urban && ltb speed slowBelow ≡ present && ltb speed slowBelow
 unfolding binOf
-slow-is-urban present speed = go present (ltb speed 100) refl
+slow-is-urban present speed = go present (ltb speed slowBelow) refl
   where
-    go : (t slow : Bool) → ltb speed 100 ≡ slow → t && eqb (binOf speed) urban && slow ≡ t && slow
+    go : (t slow : Bool) → ltb speed slowBelow ≡ slow → t && eqb (binOf speed) urban && slow ≡ t && slow
     go false slow q = refl
     go true true q =
-        let low : leb speed 6_000 ≡ true = le-leb speed 6_000 (omega (arith, ltb-true speed 100 q)) in
+        let low : leb speed 6_000 ≡ true = le-leb speed 6_000 (omega (arith, ltb-true speed slowBelow q)) in
         rw low refl
     go true false q = and-false (eqb (binOf speed) urban)
 
@@ -38,9 +40,9 @@ module _ (states : List ℕ) where
   unfolding gapAfter
   gap-more i = after-more _ 0 i
 
-  pub longest-gap-more : (i : ℕ) → longestGap states (i + 1) ≡ larger (longestGap states i) (gapAfter states (i + 1))
+  pub longest-gap-more : (i : ℕ) → longestGap states (i + 1) ≡ max (longestGap states i) (gapAfter states (i + 1))
   unfolding longestGap
-  longest-gap-more i = after-more _ 0 i ∙ ap (λ (k : ℕ). larger (afterFirst (λ j longest. larger longest (gapAfter states (suc j))) 0 i) (gapAfter states k)) (sym (add-one i))
+  longest-gap-more i = after-more _ 0 i ∙ ap (λ (k : ℕ). max (afterFirst (λ j longest. max longest (gapAfter states (suc j))) 0 i) (gapAfter states k)) (sym (add-one i))
 
 module _ (states speeds : List ℕ) where
   pub counts-none : countsAfter states speeds 0 ≡ record { missing = 0; gap = 0; slow = 0; fast = 0; faster = 0; fastest = 0 }
@@ -60,7 +62,7 @@ module _ (states speeds : List ℕ) where
       record {
         missing = omega (arith, how-many-at-most (isMissing states) i);
         slow = omega (arith, how-many-at-most (isSlowUrban states speeds) i);
-        fast = omega (arith, how-many-at-most (isAbove states speeds 10_000) i);
-        faster = omega (arith, how-many-at-most (isAbove states speeds 14_500) i);
-        fastest = omega (arith, how-many-at-most (isAbove states speeds 16_000) i);
+        fast = omega (arith, how-many-at-most (isAbove states speeds fastAbove) i);
+        faster = omega (arith, how-many-at-most (isAbove states speeds fasterAbove) i);
+        fastest = omega (arith, how-many-at-most (isAbove states speeds fastestAbove) i);
       }

@@ -1,24 +1,13 @@
--- What a count above 0 says: one of the seconds is in the set. So a speed is above a number. Assumes nothing.
+-- What a count above 0 says: one of the seconds is in the set. Assumes nothing.
 use Prim.Native.Nat.{ℕ, zero, suc, _+_, _<_}
 use mathlib.Core.Path.{_≡_, refl}
 use mathlib.Core.Bool.{Bool, true, false}
-use mathlib.Core.List.{List}
 use mathlib.Core.Logic.{_↔_}
 use native.Mathlib.Omega.{arith}
-use borrow.Author.Tests.{ltb-true, ltb-false, lt-ltb}
+use borrow.Author.Tests.{ltb-true, ltb-false}
 use lib.Dec.{ltb}
-use lib.ListN.{getD}
-use Rattle.base.specs.Words.{pick, afterFirst}
-use Rattle.second.specs.Lanes.{hasValues}
-use Rattle.base.proofs.Tests.{and-left, and-right}
-use Rattle.tally.specs.Sets.{sumOver, howMany, isAbove}
-use Rattle.tally.specs.Facts.{SpeedAbove}
-
--- one of the first n seconds is in a set
-pub record SomeIn (inSet : ℕ → Bool) (n : ℕ) : Type 0 where
-  pub second : ℕ
-  pub within : second < n
-  pub is-in : inSet second ≡ true
+use Rattle.base.specs.Words.{pick, afterFirst, sumOver, howMany}
+use Rattle.tally.specs.Facts.{SomeIn}
 
 module _ (inSet : ℕ → Bool) where
   some-found : (n : ℕ) → 0 < howMany inSet n → SomeIn inSet n
@@ -47,22 +36,3 @@ module _ (inSet : ℕ → Bool) where
   -- a set of seconds has one exactly when their number is above 0
   pub some-in : (n : ℕ) → (0 < howMany inSet n) ↔ SomeIn inSet n
   some-in n = (some-found n, some-counted n)
-
--- a speed is above a number exactly when the number of such seconds is above 0
-pub speed-above : (states speeds : List ℕ) (speed n : ℕ) → (0 < howMany (isAbove states speeds speed) n) ↔ SpeedAbove states speeds speed n
-speed-above states speeds speed n = (λ h. so (some-in (isAbove states speeds speed) n .0 h), λ a. some-in (isAbove states speeds speed) n .1 (back a))
-  where
-    so : SomeIn (isAbove states speeds speed) n → SpeedAbove states speeds speed n
-    so some =
-        let present = hasValues (getD states (some .second) 0) in
-        let fast = ltb speed (getD speeds (some .second) 0) in
-        record {
-          second = some .second;
-          within = some .within;
-          has-values = and-left present fast (some .is-in);
-          above = ltb-true _ _ (and-right present fast (some .is-in));
-        }
-
-    back : SpeedAbove states speeds speed n → SomeIn (isAbove states speeds speed) n
-    back a =
-        record { second = a .second; within = a .within; is-in = rw (a .has-values) (lt-ltb _ _ (a .above)) }

@@ -11,14 +11,15 @@ use lib.ListN.{length, getD, set}
 use Rattle.base.specs.Limits.{tripLimit}
 use Rattle.base.specs.Second.{measured, missing, check, stateKnown}
 use Rattle.base.specs.Roads.{urban, rural, motorway}
-use Rattle.base.specs.Words.{pick, afterFirst}
+use Rattle.base.specs.Words.{pick, afterFirst, sumOver, howMany}
 use Rattle.base.proofs.Choice.{both-ways}
 use Rattle.second.specs.Bins.{binOf}
-use Rattle.second.specs.Lanes.{hasValues}
+use Rattle.second.specs.Row.{hasValues}
 use Rattle.tally.specs.declared.Tally.{Tally}
-use Rattle.tally.specs.Sets.{sumOver, howMany, isMissing, isPresent, isInBin}
-use Rattle.tally.specs.Tally.{massOf, noSeconds, tallyOver, binTalliesAfter, binTallies, wholeTally, withSecond, added, Room}
-use Rattle.tally.proofs.Sums.{sum-over-more, sum-over-at-most, how-many-at-most, how-many-both, sum-over-parts}
+use Rattle.tally.specs.Sets.{isMissing, isPresent, isInBin}
+use Rattle.tally.specs.Tally.{massOf, noSeconds, tallyOver, wholeTally}
+use Rattle.tally.specs.Inside.{binTalliesAfter, binTallies, withSecond, added, Room}
+use Rattle.base.proofs.SumOver.{sum-over-more, sum-over-at-most, how-many-at-most, how-many-both, sum-over-parts}
 
 -- a bin is one of three
 pub bin-below : (speed : ℕ) → binOf speed < 3
@@ -123,7 +124,7 @@ module _ (states speeds co2 nox : List ℕ) where
     tally-room inSet i few =
         record {
           seconds = omega (arith, how-many-at-most inSet i);
-          distance = omega (arith, sum-over-at-most inSet (λ k. getD speeds k 0) (2 ^ 16) (λ k. omega (arith, small-speeds k)) i);
+          distance = omega (arith, sum-over-at-most inSet (λ k. getD speeds k 0) 65_535 (λ k. omega (arith, small-speeds k)) i);
           co2 = omega (arith, sum-over-at-most inSet _ (2 ^ 32) (λ k. mass-below (getD states k 0) (getD co2 k 0) (small-co2 k)) i);
           nox = omega (arith, sum-over-at-most inSet _ (2 ^ 32) (λ k. mass-below (getD states k 0) (getD nox k 0) (small-nox k)) i);
         }

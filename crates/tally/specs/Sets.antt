@@ -1,21 +1,14 @@
--- Sets of a trip's seconds, and sums over them.
-use Prim.Native.Nat.{ℕ, _+_}
+-- Sets of a trip's seconds.
+use Prim.Native.Nat.{ℕ}
 use mathlib.Core.Bool.{Bool, _&&_}
 use mathlib.Core.List.{List}
 use lib.Dec.{ltb, eqb}
 use lib.ListN.{getD}
 use Rattle.base.specs.Second.{missing}
-use Rattle.base.specs.Words.{pick, afterFirst}
+use Rattle.base.specs.Roads.{urban}
 use Rattle.second.specs.Bins.{binOf}
-use Rattle.second.specs.Lanes.{hasValues}
-
--- the sum of a value over those of the first i seconds that are in a set
-unfoldable pub sumOver : (ℕ → Bool) → (ℕ → ℕ) → ℕ → ℕ
-sumOver inSet value = afterFirst (λ i total. total + pick (inSet i) (value i) 0) 0
-
--- how many of the first i seconds are in a set
-abbrev pub howMany : (ℕ → Bool) → ℕ → ℕ
-howMany inSet = sumOver inSet (λ i. 1)
+use Rattle.second.specs.Row.{hasValues}
+use Rattle.tally.specs.Numbers.{slowBelow}
 
 -- second i is missing
 abbrev pub isMissing : List ℕ → ℕ → Bool
@@ -28,6 +21,10 @@ isPresent states i = hasValues (getD states i 0)
 -- "Bins by the second's speed ..; missing seconds have none."
 abbrev pub isInBin : List ℕ → List ℕ → ℕ → ℕ → Bool
 isInBin states speeds bin i = isPresent states i && eqb (binOf (getD speeds i 0)) bin
+
+-- "urban seconds below 100"
+abbrev pub isSlowUrban : List ℕ → List ℕ → ℕ → Bool
+isSlowUrban states speeds i = isInBin states speeds urban i && ltb (getD speeds i 0) slowBelow
 
 -- second i has a speed above a number
 abbrev pub isAbove : List ℕ → List ℕ → ℕ → ℕ → Bool

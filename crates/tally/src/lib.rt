@@ -2,10 +2,11 @@
 // reasons ask for. Each figure is one definition in specs/, a sum over a set of seconds.
 
 ghost use mathlib.Core.Path.{_≡_};
-ghost use Prim.Native.Nat.{_+_, _^_, _<_};
+ghost use Prim.Native.Nat.{_+_, _^_, _<_, max};
 ghost use Rattle.base.specs.Words.{pick};
-ghost use Rattle.tally.specs.Tally.{TallyLanes, Room, massOf, withSecond, binTallies, added};
-ghost use Rattle.tally.specs.Counts.{CountLanes, Few, larger, gapWith, countsWith, countsOf};
+ghost use Rattle.tally.specs.Tally.{massOf};
+ghost use Rattle.tally.specs.Counts.{countsOf};
+ghost use Rattle.tally.specs.Inside.{TallyLanes, Room, withSecond, binTallies, added, CountLanes, Few, gapWith, countsWith};
 
 // Seconds taken together: one for each bin, and one for the trip.
 #[repr(C)]
@@ -20,11 +21,20 @@ pub struct Tally {
 pub struct Counts {
     pub missing: u32,
     pub gap: u32, // the most missing seconds in a row
-    pub slow: u32, // urban seconds with a speed below 100
-    pub fast: u32, // seconds with a speed above 10,000
-    pub faster: u32, // seconds with a speed above 14,500
-    pub fastest: u32, // seconds with a speed above 16,000
+    pub slow: u32, // urban seconds below SLOW_BELOW
+    pub fast: u32, // seconds above FAST_ABOVE
+    pub faster: u32, // seconds above FASTER_ABOVE
+    pub fastest: u32, // seconds above FASTEST_ABOVE
 }
+
+// The speeds that the counts ask for, 0.01 km/h.
+const SLOW_BELOW: u16 = 100;
+
+const FAST_ABOVE: u16 = 10_000;
+
+const FASTER_ABOVE: u16 = 14_500;
+
+const FASTEST_ABOVE: u16 = 16_000;
 
 // The tallies of the bins urban, rural, motorway.
 pub fn tally_bins(states: &[u8], speeds: &[u16], co2: &[u32], nox: &[u32]) -> [Tally; 3]
@@ -121,7 +131,7 @@ pub fn count_seconds(states: &[u8], speeds: &[u16]) -> Counts
 
 // The missing seconds in a row that end with a second in this state.
 fn gap_with(gap: u32, state: u8) -> u32
-    requires { ⌜ gap < 65_536 ⌝ }
+    requires { ⌜ gap < 2 ^ 16 ⌝ }
     ensures { λ r. ⌜ r ≡ gapWith gap state ⌝ }
 {
     if state == base::state::MISSING {
@@ -145,16 +155,16 @@ fn counts_with(before: Counts, gap: u32, state: u8, speed: u16) -> Counts
     Counts {
         missing: one_more_if(state == base::state::MISSING, missing),
         gap: larger_of(before.gap, gap),
-        slow: one_more_if(present & (speed < 100), slow),
-        fast: one_more_if(present & (10_000 < speed), fast),
-        faster: one_more_if(present & (14_500 < speed), faster),
-        fastest: one_more_if(present & (16_000 < speed), fastest),
+        slow: one_more_if(present & (speed < SLOW_BELOW), slow),
+        fast: one_more_if(present & (FAST_ABOVE < speed), fast),
+        faster: one_more_if(present & (FASTER_ABOVE < speed), faster),
+        fastest: one_more_if(present & (FASTEST_ABOVE < speed), fastest),
     }
 }
 
 // A count with one more where a test holds.
 fn one_more_if(test: bool, count: u32) -> u32
-    requires { ⌜ count < 65_536 ⌝ }
+    requires { ⌜ count < 2 ^ 16 ⌝ }
     ensures { λ r. ⌜ r ≡ count + pick test 1 0 ⌝ }
 {
     if test {
@@ -165,7 +175,7 @@ fn one_more_if(test: bool, count: u32) -> u32
 
 // The larger of two numbers.
 fn larger_of(a: u32, b: u32) -> u32
-    ensures { λ r. ⌜ r ≡ larger a b ⌝ }
+    ensures { λ r. ⌜ r ≡ max a b ⌝ }
 {
     if a < b {
         return b;

@@ -10,7 +10,7 @@ use lib.ListN.{length, length-append}
 use borrow.Author.Tests.{lt-ltb, le-ltb, ltb-true, ltb-false}
 use Rattle.base.specs.Words.{pick}
 use Rattle.text.specs.Text.{digit, decimalUpTo, decimal}
-use Rattle.text.specs.Steps.{wordDigits}
+use Rattle.text.specs.Inside.{wordDigits}
 use Rattle.text.proofs.Digits.{digit-back, readOn, read, read-more}
 
 -- any bound that is at least the number gives the same digits

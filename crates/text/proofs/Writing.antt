@@ -7,7 +7,7 @@ use native.Mathlib.Omega.{arith}
 use lib.ListN.{length, getD, drop, set, length-append, drop-of-length-le}
 use lib.Seq.{sets, length-sets, set-comm, drop-cons}
 use Rattle.base.proofs.Store.{sets-append}
-use Rattle.text.specs.Steps.{Wrote}
+use Rattle.text.specs.Inside.{Wrote}
 
 -- a byte stored behind a text may as well be stored before it
 pub sets-past : (xs l : List ℕ) (i k a : ℕ) → i + length xs ≤ k → sets (set l k a) i xs ≡ set (sets l i xs) k a

@@ -1,3 +1,3 @@
 -- The definitions of words and numbers in bytes.
 pub mod Text
-pub mod Steps
+pub mod Inside

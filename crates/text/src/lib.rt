@@ -7,7 +7,7 @@ ghost use mathlib.Core.List.{_++_};
 ghost use Prim.Native.Nat.{_+_, _<_, _≤_};
 ghost use lib.ListN.{length};
 ghost use Rattle.text.specs.Text.{bytes, digit, decimal, hex};
-ghost use Rattle.text.specs.Steps.{wordDigits, Wrote};
+ghost use Rattle.text.specs.Inside.{wordDigits, Wrote};
 
 // The bases of the digits, and what the upper places of a hex text count.
 const TEN: u64 = 10;

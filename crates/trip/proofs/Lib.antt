@@ -6,3 +6,4 @@ pub mod Refused
 pub mod Written
 pub mod Verdict
 pub mod Theorems
+pub mod Says

@@ -1,7 +1,7 @@
 -- The outcomes of the refusals of a trip, and what an accepted one may take for granted. Assumes nothing.
 use Prim.Native.Nat.{ℕ, _≤_, _<_}
 use mathlib.Core.Path.{_≡_, refl}
-use mathlib.Core.Bool.{Bool, true, false, not, _&&_, _||_}
+use mathlib.Core.Bool.{Bool, true, false, not, _||_}
 use mathlib.Core.List.{List}
 use native.Mathlib.Omega.{arith}
 use borrow.Author.Tests.{ltb-false, leb-true, eqb-false, eq-eqb, ne-eqb}
@@ -12,15 +12,17 @@ use Rattle.base.specs.declared.Plan.{Plan}
 use Rattle.base.specs.Limits.{tripLimit, speedMost, co2Most}
 use Rattle.base.specs.Plan.{planInRange}
 use Rattle.base.specs.Refusal.{accepted, lanesDiffer, tooManyValues, outOfRange, noSecond, planOutOfRange, laneTooShort, fault}
-use Rattle.base.specs.Second.{measured, tooMany, stateKnown, speedInRange, altitudeInRange, co2InRange, noxInRange}
+use Rattle.base.specs.Second.{measured, tooMany, stateKnown, altitudeInRange}
 use Rattle.base.specs.declared.Fault.{Fault}
-use Rattle.second.specs.Lanes.{Lanes, secondsIn, lanesAgree, SameLengths, hasValues, valuesInRange, secondInRange, firstBadSecond, noneHasValues}
+use Rattle.second.specs.Row.{hasValues, valuesInRange, rowInRange}
+use Rattle.second.proofs.Values.{each-value}
+use Rattle.second.specs.Lanes.{Lanes, rowAt, secondsIn, lanesAgree, SameLengths, secondInRange, firstBadSecond, noneHasValues}
 use Rattle.base.proofs.Tests.{and-left, and-right, or-left, or-right}
 use Rattle.second.proofs.Lanes.{agree, each-in-range}
 use Rattle.kept.specs.Kept.{secondKept}
 use Rattle.found.specs.Inside.{Findable}
-use Rattle.bins.specs.Bins.{BinLanes}
-use Rattle.climb.specs.Climb.{ClimbLanes}
+use Rattle.bins.specs.Inside.{BinLanes}
+use Rattle.climb.specs.Inside.{ClimbLanes}
 use Rattle.trip.specs.declared.Rooms.{Rooms}
 use Rattle.trip.specs.Refusals.{tooShort, tripFault, isAccepted}
 use Rattle.trip.specs.Outcomes.{Places}
@@ -113,44 +115,29 @@ module _ (plan : Plan) (trip : Lanes) (rooms : Rooms) where
 
 -- a second in state 1 or 3 has values in range
 module _ (trip : Lanes) (i : ℕ) (good : secondInRange trip i ≡ true) (has : hasValues (getD (trip .states) i 0) ≡ true) where
-  values-in-range : valuesInRange trip i ≡ true
-  unfolding secondInRange
+  values-in-range : valuesInRange (rowAt trip i) ≡ true
+  unfolding secondInRange rowInRange
   values-in-range =
-      let rest = and-right (stateKnown (getD (trip .states) i 0)) (not (hasValues (getD (trip .states) i 0)) || valuesInRange trip i) good in
+      let rest = and-right (stateKnown (getD (trip .states) i 0)) (not (hasValues (getD (trip .states) i 0)) || valuesInRange (rowAt trip i)) good in
       rw has at rest
 
   pub altitude-in-range : altitudeInRange (getD (trip .altitudes) i (pos 0)) ≡ true
-  altitude-in-range =
-      let s = speedInRange (getD (trip .speeds) i 0) in
-      let a = altitudeInRange (getD (trip .altitudes) i (pos 0)) in
-      let c = co2InRange (getD (trip .co2) i 0) in
-      let n = noxInRange (getD (trip .nox) i 0) in
-      and-right s a (and-left (s && a) c (and-left (s && a && c) n values-in-range))
+  altitude-in-range = each-value (rowAt trip i) values-in-range .altitude
 
 -- so has a kept second
 module _ (trip : Lanes) (i : ℕ) (good : secondInRange trip i ≡ true) (kept : secondKept (getD (trip .states) i 0) (getD (trip .speeds) i 0) ≡ true) where
   is-measured : eqb (getD (trip .states) i 0) measured ≡ true
   is-measured = and-left (eqb (getD (trip .states) i 0) measured) (leb 100 (getD (trip .speeds) i 0)) kept
 
-  all-in-range : valuesInRange trip i ≡ true
+  all-in-range : valuesInRange (rowAt trip i) ≡ true
   unfolding hasValues
   all-in-range = values-in-range trip i good (rw is-measured refl)
 
   pub kept-speed-in-range : getD (trip .speeds) i 0 ≤ speedMost
-  kept-speed-in-range =
-      let s = speedInRange (getD (trip .speeds) i 0) in
-      let a = altitudeInRange (getD (trip .altitudes) i (pos 0)) in
-      let c = co2InRange (getD (trip .co2) i 0) in
-      let n = noxInRange (getD (trip .nox) i 0) in
-      leb-true _ _ (and-left s a (and-left (s && a) c (and-left (s && a && c) n all-in-range)))
+  kept-speed-in-range = leb-true _ _ (each-value (rowAt trip i) all-in-range .speed)
 
   pub kept-co2-in-range : getD (trip .co2) i 0 ≤ co2Most
-  kept-co2-in-range =
-      let s = speedInRange (getD (trip .speeds) i 0) in
-      let a = altitudeInRange (getD (trip .altitudes) i (pos 0)) in
-      let c = co2InRange (getD (trip .co2) i 0) in
-      let n = noxInRange (getD (trip .nox) i 0) in
-      leb-true _ _ (and-right (s && a) c (and-left (s && a && c) n all-in-range))
+  kept-co2-in-range = leb-true _ _ (each-value (rowAt trip i) all-in-range .co2)
 
 -- what the parts of the evaluation ask, of an accepted trip
 module _ {plan : Plan} {trip : Lanes} {rooms : Rooms} (ok : Accepted plan trip rooms) where
@@ -179,4 +166,9 @@ module _ {plan : Plan} {trip : Lanes} {rooms : Rooms} (ok : Accepted plan trip r
       }
 
   pub climb-lanes : ClimbLanes (trip .states) (trip .speeds) (trip .altitudes)
-  climb-lanes = record { speeds-agree = ok .lanes .speeds; altitudes-agree = ok .lanes .altitudes; few = ok .few }
+  climb-lanes =
+      record {
+        recorded = record { altitudes-agree = ok .lanes .altitudes; in-range = λ i h has. altitude-in-range trip i (ok .in-range i h) has };
+        speeds-agree = ok .lanes .speeds;
+        few = ok .few;
+      }

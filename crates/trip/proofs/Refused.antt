@@ -1,29 +1,24 @@
 -- Refused exactly when: each number and place is given exactly when its condition holds and none before it in the order does.
 -- Assumes nothing.
-use Prim.Native.Nat.{ℕ, _≤_, _<_}
-use mathlib.Core.Path.{_≡_, refl, sym, _∙_, ap}
-use mathlib.Core.Bool.{Bool, true, false, not, false≢true}
+use Prim.Native.Nat.{ℕ, _≤_}
+use mathlib.Core.Path.{_≡_, refl, _∙_, ap}
+use mathlib.Core.Bool.{Bool, true, false}
 use mathlib.Core.Logic.{_↔_}
-use native.Mathlib.Nat.{le-refl}
-use native.Mathlib.Omega.{arith}
-use borrow.Author.Tests.{ltb-true, ltb-false, lt-ltb, le-ltb, eqb-true, not-true}
-use lib.Dec.{ltb}
-use lib.ListN.{getD}
+use borrow.Author.Tests.{ltb-true, ltb-false, lt-ltb, le-ltb}
 use Rattle.base.specs.declared.Plan.{Plan}
 use Rattle.base.specs.Limits.{tripLimit}
 use Rattle.base.specs.Refusal.{outOfRange, fault}
 use Rattle.base.specs.Second.{tooMany}
-use Rattle.base.specs.Words.{firstBad}
-use Rattle.base.proofs.FirstBad.{first-bad}
 use Rattle.base.specs.declared.Fault.{Fault}
-use Rattle.second.specs.Lanes.{Lanes, secondsIn, lanesAgree, SameLengths, hasValues, secondInRange, firstBadSecond, noneHasValues}
-use Rattle.second.proofs.Lanes.{agree, each-in-range, none-has, agrees}
-use Rattle.base.proofs.Search.{stops-at, comes-to}
-use Rattle.reasons.proofs.Says.{Says, says-or, says-below}
+use Rattle.second.specs.Lanes.{Lanes, secondsIn, lanesAgree, firstBadSecond}
+use Rattle.second.proofs.Lanes.{agree, agrees, not-agree}
+use Rattle.second.proofs.Facts.{first-bad-at, is-first-bad, has-bad, all-in-range, has-no-bad, says-none, some-second, says-some}
+use Rattle.second.proofs.Facts as facts
 use Rattle.trip.specs.declared.Rooms.{Rooms}
 use Rattle.trip.specs.Refusals.{tooShort, tripFault, isAccepted}
-use Rattle.trip.specs.Trip.{answerOf, refused, concluded, answerFrom}
-use Rattle.trip.specs.Outcomes.{Places, TooShort, FirstBadAt, AllInRange, NoSecond, Given, plan-out-of-range, lanes-differ, too-many, lane-too-short, out-of-range, no-second, none}
+use Rattle.trip.specs.Trip.{answerOf, refused, answerFrom}
+use Rattle.trip.specs.Outcomes.{Places, TooShort, Given, plan-out-of-range, lanes-differ, too-many, lane-too-short, out-of-range, no-second, none}
+use Rattle.trip.proofs.Says.{Says, says-or, says-below}
 use Rattle.trip.proofs.Chain.{gives-plan, gives-differ, gives-many, gives-short, gives-bad, gives-none, gives-accepted}
 use Rattle.trip.proofs.Passed.{places, Outcome, outcome}
 
@@ -38,38 +33,6 @@ unfolding tooShort
 room-enough rooms n p =
     rw (le-ltb _ _ (p .for-speeds), le-ltb _ _ (p .for-co2), le-ltb _ _ (p .for-ends), le-ltb _ _ (p .for-ranks)) refl
 
-first-bad-at : (trip : Lanes) → firstBadSecond trip < secondsIn trip → FirstBadAt trip (firstBadSecond trip)
-unfolding firstBadSecond
-first-bad-at trip h =
-    let is = first-bad (secondInRange trip) (secondsIn trip) in
-    record { within = h; bad = is .there h; before = is .before }
-
-is-first-bad : (trip : Lanes) (i : ℕ) → FirstBadAt trip i → firstBadSecond trip ≡ i
-unfolding firstBadSecond
-is-first-bad trip i at = stops-at (secondInRange trip) (secondsIn trip) i (at .within) (at .before) (at .bad)
-
-all-good : (trip : Lanes) → AllInRange trip → ltb (firstBadSecond trip) (secondsIn trip) ≡ false
-unfolding firstBadSecond
-all-good trip all =
-    let end : firstBad (secondInRange trip) (secondsIn trip) ≡ secondsIn trip = comes-to (secondInRange trip) (secondsIn trip) (secondsIn trip) (le-refl _) (le-refl _) all in
-    rw end (le-ltb (secondsIn trip) (secondsIn trip) (le-refl _))
-
-none-says : (trip : Lanes) → NoSecond trip → noneHasValues (trip .states) ≡ true
-none-says trip all =
-    none-has (trip .states) (secondsIn trip) (le-refl _) (le-refl _)
-    (comes-to (λ k. not (hasValues (getD (trip .states) k 0))) (secondsIn trip) (secondsIn trip) (le-refl _) (le-refl _) (λ k h. ap not (all k h)))
-
-says-none : (trip : Lanes) → noneHasValues (trip .states) ≡ true → NoSecond trip
-unfolding noneHasValues
-says-none trip q i h =
-    let first = first-bad (λ k. not (hasValues (getD (trip .states) k 0))) (secondsIn trip) in
-    let end : firstBad (λ k. not (hasValues (getD (trip .states) k 0))) (secondsIn trip) ≡ secondsIn trip = eqb-true _ _ q in
-    not-true _ (first .before i (omega arith))
-
-some-says : (trip : Lanes) (t : Bool) → noneHasValues (trip .states) ≡ t → (NoSecond trip → ⊥) → noneHasValues (trip .states) ≡ false
-some-says trip true q some = absurd (some (says-none trip q))
-some-says trip false q some = q
-
 module _ (plan : Plan) (trip : Lanes) (rooms : Rooms) where
   -- what the chain of tests gives is given
   is-given : Given plan trip rooms (tripFault plan trip rooms)
@@ -78,17 +41,14 @@ module _ (plan : Plan) (trip : Lanes) (rooms : Rooms) where
       few : tooMany (secondsIn trip) ≡ false → secondsIn trip ≤ tripLimit
       few r = ltb-false tripLimit (secondsIn trip) r
 
-      differ : lanesAgree trip ≡ false → SameLengths trip → ⊥
-      differ q same = false≢true (sym q ∙ agrees trip same)
-
       go : (x : Fault) → Outcome plan trip rooms x → Given plan trip rooms x
       go _ (Outcome.bad-plan p) = plan-out-of-range p
-      go _ (Outcome.lanes-differ p q) = lanes-differ p (differ q)
+      go _ (Outcome.lanes-differ p q) = lanes-differ p (not-agree trip q)
       go _ (Outcome.too-many p q r) = too-many p (agree trip q) (ltb-true tripLimit (secondsIn trip) r)
       go _ (Outcome.too-short p q r s) = lane-too-short p (agree trip q) (few r) (says-short rooms (secondsIn trip) .so s)
-      go _ (Outcome.bad-second p q r s t) = out-of-range p (agree trip q) (few r) (places rooms (secondsIn trip) s) (firstBadSecond trip) (first-bad-at trip (ltb-true (firstBadSecond trip) (secondsIn trip) t))
-      go _ (Outcome.no-second p q r s t u) = no-second p (agree trip q) (few r) (places rooms (secondsIn trip) s) (each-in-range trip (ltb-false (firstBadSecond trip) (secondsIn trip) t)) (says-none trip u)
-      go _ (Outcome.fine p q r s t u) = none p (agree trip q) (few r) (places rooms (secondsIn trip) s) (each-in-range trip (ltb-false (firstBadSecond trip) (secondsIn trip) t)) (λ all. false≢true (sym u ∙ none-says trip all))
+      go _ (Outcome.bad-second p q r s t) = out-of-range p (agree trip q) (few r) (places rooms (secondsIn trip) s) (firstBadSecond trip) (first-bad-at trip t)
+      go _ (Outcome.no-second p q r s t u) = no-second p (agree trip q) (few r) (places rooms (secondsIn trip) s) (all-in-range trip t) (facts.no-second trip u)
+      go _ (Outcome.fine p q r s t u) = none p (agree trip q) (few r) (places rooms (secondsIn trip) s) (all-in-range trip t) (some-second trip u)
 
   -- and nothing else is
   only-given : (x : Fault) → Given plan trip rooms x → tripFault plan trip rooms ≡ x
@@ -100,12 +60,9 @@ module _ (plan : Plan) (trip : Lanes) (rooms : Rooms) where
       apart false e = e
   only-given _ (too-many p q r) = gives-many plan trip rooms p (agrees trip q) (lt-ltb tripLimit (secondsIn trip) r)
   only-given _ (lane-too-short p q r s) = gives-short plan trip rooms p (agrees trip q) (le-ltb tripLimit (secondsIn trip) r) (says-short rooms (secondsIn trip) .back s)
-  only-given _ (out-of-range p q r s i t) =
-      let here : firstBadSecond trip ≡ i = is-first-bad trip i t in
-      let below : ltb (firstBadSecond trip) (secondsIn trip) ≡ true = rw here (lt-ltb i (secondsIn trip) (t .within)) in
-      gives-bad plan trip rooms p (agrees trip q) (le-ltb tripLimit (secondsIn trip) r) (room-enough rooms (secondsIn trip) s) below ∙ ap (fault outOfRange) here
-  only-given _ (no-second p q r s t u) = gives-none plan trip rooms p (agrees trip q) (le-ltb tripLimit (secondsIn trip) r) (room-enough rooms (secondsIn trip) s) (all-good trip t) (none-says trip u)
-  only-given _ (none p q r s t u) = gives-accepted plan trip rooms p (agrees trip q) (le-ltb tripLimit (secondsIn trip) r) (room-enough rooms (secondsIn trip) s) (all-good trip t) (some-says trip (noneHasValues (trip .states)) refl u)
+  only-given _ (out-of-range p q r s i t) = gives-bad plan trip rooms p (agrees trip q) (le-ltb tripLimit (secondsIn trip) r) (room-enough rooms (secondsIn trip) s) (has-bad trip i t) ∙ ap (fault outOfRange) (is-first-bad trip i t)
+  only-given _ (no-second p q r s t u) = gives-none plan trip rooms p (agrees trip q) (le-ltb tripLimit (secondsIn trip) r) (room-enough rooms (secondsIn trip) s) (has-no-bad trip t) (says-none trip u)
+  only-given _ (none p q r s t u) = gives-accepted plan trip rooms p (agrees trip q) (le-ltb tripLimit (secondsIn trip) r) (room-enough rooms (secondsIn trip) s) (has-no-bad trip t) (says-some trip u)
 
   -- the call gives a number and a place exactly when the conditions of that row hold
   pub refused-exactly : (x : Fault) → (tripFault plan trip rooms ≡ x) ↔ Given plan trip rooms x
@@ -113,7 +70,7 @@ module _ (plan : Plan) (trip : Lanes) (rooms : Rooms) where
 
   -- the answer's number and place are those of the chain of tests
   pub answer-fault : fault (answerOf plan trip rooms .refusal) (answerOf plan trip rooms .place) ≡ tripFault plan trip rooms
-  unfolding answerOf isAccepted refused concluded answerFrom
+  unfolding answerOf isAccepted refused answerFrom
   answer-fault = go (tripFault plan trip rooms) refl (outcome plan trip rooms)
     where
       go : (x : Fault) → tripFault plan trip rooms ≡ x → Outcome plan trip rooms x → fault (answerOf plan trip rooms .refusal) (answerOf plan trip rooms .place) ≡ tripFault plan trip rooms

@@ -6,17 +6,18 @@ use lib.ListN.{getD}
 use Rattle.base.specs.declared.Plan.{Plan}
 use Rattle.base.specs.Second.{stateKnown}
 use Rattle.base.specs.declared.Fault.{Fault}
-use Rattle.second.specs.Lanes.{Lanes, hasValues, valuesInRange, secondInRange}
+use Rattle.second.specs.Row.{hasValues, valuesInRange, rowInRange}
+use Rattle.second.specs.Lanes.{Lanes, rowAt, secondInRange}
 use Rattle.base.proofs.Tests.{and-left}
 use Rattle.tally.specs.declared.Tally.{Tally}
 use Rattle.tally.specs.Counts.{countsAfter}
 use Rattle.tally.proofs.Tallies.{bins-add-up, seconds-add-up}
-use Rattle.tally.specs.Tally.{added, binTalliesAfter}
+use Rattle.tally.specs.Inside.{added, binTalliesAfter}
 use Rattle.bins.specs.Bins.{binOf, binsOf}
 use Rattle.trip.specs.declared.Rooms.{Rooms}
 use Rattle.base.specs.Refusal.{fault}
 use Rattle.trip.specs.Refusals.{tripFault}
-use Rattle.trip.specs.Trip.{figuresFrom, answerFrom, concluded, evaluated, answerOf, refused}
+use Rattle.trip.specs.Trip.{figuresFrom, answerFrom, evaluated, answerOf, refused}
 use Rattle.trip.specs.Sums.{SumsUp}
 use Rattle.trip.proofs.Passed.{Accepted, passed, is-accepted, is-refused}
 use Rattle.trip.proofs.Answers.{refused-answer, accepted-answer}
@@ -42,7 +43,7 @@ module _ (plan : Plan) (trip : Lanes) (rooms : Rooms) where
 -- ---- sums
 module _ (plan : Plan) (trip : Lanes) where
   pub sums-up : SumsUp plan trip
-  unfolding concluded answerFrom binsOf binOf added binTalliesAfter
+  unfolding answerFrom binsOf binOf added binTalliesAfter
   sums-up =
       let all = bins-add-up (trip .states) (trip .speeds) (trip .co2) (trip .nox) in
       record {
@@ -54,7 +55,7 @@ module _ (plan : Plan) (trip : Lanes) where
 
   -- "their seconds to n less the missing"
   pub seconds-less-missing : {rooms : Rooms} → Accepted plan trip rooms → evaluated plan trip .total .seconds + evaluated plan trip .missing ≡ evaluated plan trip .seconds
-  unfolding concluded answerFrom figuresFrom binsOf countsAfter secondInRange
+  unfolding answerFrom figuresFrom binsOf countsAfter secondInRange rowInRange
   seconds-less-missing ok =
       seconds-add-up (trip .states) (trip .speeds) (trip .co2) (trip .nox)
-      (λ i h. and-left (stateKnown (getD (trip .states) i 0)) (not (hasValues (getD (trip .states) i 0)) || valuesInRange trip i) (ok .in-range i h))
+      (λ i h. and-left (stateKnown (getD (trip .states) i 0)) (not (hasValues (getD (trip .states) i 0)) || valuesInRange (rowAt trip i)) (ok .in-range i h))

@@ -1,9 +1,7 @@
 -- What is refused of a trip: "Trip: 5, 1, 2, 6, 3, 4".
 use Prim.Native.Nat.{ℕ}
 use mathlib.Core.Bool.{Bool, not, _||_}
-use mathlib.Core.List.{List}
 use lib.Dec.{ltb, eqb}
-use lib.ListN.{length}
 use Rattle.base.specs.declared.Plan.{Plan}
 use Rattle.base.specs.Plan.{planInRange}
 use Rattle.base.specs.Refusal.{accepted, lanesDiffer, tooManyValues, outOfRange, noSecond, planOutOfRange, laneTooShort, fault}
@@ -12,11 +10,6 @@ use Rattle.base.specs.Words.{pick}
 use Rattle.base.specs.declared.Fault.{Fault}
 use Rattle.second.specs.Lanes.{Lanes, secondsIn, lanesAgree, firstBadSecond, noneHasValues}
 use Rattle.trip.specs.declared.Rooms.{Rooms}
-
--- the places of the lent lanes: for kept speeds, kept CO2 masses, ends and ranks
-abbrev pub roomsOf : List ℕ → List ℕ → List ℕ → List ℕ → Rooms
-roomsOf speeds co2 ends ranks =
-    record { speeds = length speeds; co2 = length co2; ends = length ends; ranks = length ranks }
 
 -- "each needing a place per second"
 unfoldable pub tooShort : Rooms → ℕ → Bool

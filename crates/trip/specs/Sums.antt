@@ -6,16 +6,21 @@ use Rattle.base.specs.declared.Plan.{Plan}
 use Rattle.base.specs.Roads.{urban, rural, motorway}
 use Rattle.second.specs.Lanes.{Lanes}
 use Rattle.bins.specs.declared.Bin.{Bin}
-use Rattle.trip.specs.Trip.{noBin, evaluated}
+use Rattle.bins.specs.Bins.{noBin}
+use Rattle.trip.specs.declared.Evaluated.{Evaluated}
+use Rattle.trip.specs.Trip.{evaluated}
 
 module _ (plan : Plan) (trip : Lanes) where
-  -- a bin of the answer
-  abbrev binAt : ℕ → Bin
-  binAt bin = getD (evaluated plan trip .bins) bin noBin
+  abbrev answer : Evaluated
+  answer = evaluated plan trip
+
+  -- one figure of the three bins, added up
+  abbrev overBins : (Bin → ℕ) → ℕ
+  overBins figure = figure (getD (answer .bins) urban noBin) + figure (getD (answer .bins) rural noBin) + figure (getD (answer .bins) motorway noBin)
 
   -- "Those four add up over the bins to the trip's"
   pub record SumsUp : Type 0 where
-    pub seconds : binAt urban .seconds + binAt rural .seconds + binAt motorway .seconds ≡ evaluated plan trip .total .seconds
-    pub distance : binAt urban .distance + binAt rural .distance + binAt motorway .distance ≡ evaluated plan trip .total .distance
-    pub co2 : binAt urban .co2 + binAt rural .co2 + binAt motorway .co2 ≡ evaluated plan trip .total .co2
-    pub nox : binAt urban .nox + binAt rural .nox + binAt motorway .nox ≡ evaluated plan trip .total .nox
+    pub seconds : overBins (λ bin. bin .seconds) ≡ answer .total .seconds
+    pub distance : overBins (λ bin. bin .distance) ≡ answer .total .distance
+    pub co2 : overBins (λ bin. bin .co2) ≡ answer .total .co2
+    pub nox : overBins (λ bin. bin .nox) ≡ answer .total .nox

@@ -11,9 +11,8 @@ use tally::Tally;
 use windows::ClassCount;
 ghost use mathlib.Core.Path.{_≡_};
 ghost use Rattle.second.specs.Lanes.{lanesOf};
-ghost use Rattle.trip.specs.Refusals.{roomsOf};
 ghost use Rattle.trip.specs.Trip.{answerOf};
-ghost use Rattle.trip.specs.Lent.{keptSpeedsLane, keptCo2Lane, endsLane, ranksLane};
+ghost use Rattle.trip.specs.Lent.{lentOf, roomsIn, lentLeft};
 
 // The answer. In a refusal everything but its number and place is zero. Bins and classes stand in
 // the order urban, rural, motorway.
@@ -54,11 +53,12 @@ pub fn evaluate(
     ends: &mut [u16],
     ranks: &mut [u32],
 ) -> Evaluated
-    ensures { λ r. ⌜ r ≡ answerOf plan (lanesOf (now (states .entry)) (now (speeds .entry)) (now (altitudes .entry)) (now (co2 .entry)) (now (nox .entry))) (roomsOf (now («kept_speeds» .entry)) (now («kept_co2» .entry)) (now (ends .entry)) (now (ranks .entry))) ⌝ }
-    ensures { λ r. ⌜ now («kept_speeds» .exit) ≡ keptSpeedsLane plan (lanesOf (now (states .entry)) (now (speeds .entry)) (now (altitudes .entry)) (now (co2 .entry)) (now (nox .entry))) (roomsOf (now («kept_speeds» .entry)) (now («kept_co2» .entry)) (now (ends .entry)) (now (ranks .entry))) (now («kept_speeds» .entry)) ⌝ }
-    ensures { λ r. ⌜ now («kept_co2» .exit) ≡ keptCo2Lane plan (lanesOf (now (states .entry)) (now (speeds .entry)) (now (altitudes .entry)) (now (co2 .entry)) (now (nox .entry))) (roomsOf (now («kept_speeds» .entry)) (now («kept_co2» .entry)) (now (ends .entry)) (now (ranks .entry))) (now («kept_co2» .entry)) ⌝ }
-    ensures { λ r. ⌜ now (ends .exit) ≡ endsLane plan (lanesOf (now (states .entry)) (now (speeds .entry)) (now (altitudes .entry)) (now (co2 .entry)) (now (nox .entry))) (roomsOf (now («kept_speeds» .entry)) (now («kept_co2» .entry)) (now (ends .entry)) (now (ranks .entry))) (now (ends .entry)) ⌝ }
-    ensures { λ r. ⌜ now (ranks .exit) ≡ ranksLane plan (lanesOf (now (states .entry)) (now (speeds .entry)) (now (altitudes .entry)) (now (co2 .entry)) (now (nox .entry))) (roomsOf (now («kept_speeds» .entry)) (now («kept_co2» .entry)) (now (ends .entry)) (now (ranks .entry))) (now (ranks .entry)) ⌝ }
+    ensures { λ r.
+        let trip = lanesOf (now (states .entry)) (now (speeds .entry)) (now (altitudes .entry)) (now (co2 .entry)) (now (nox .entry)) in
+        let lent = lentOf (now («kept_speeds» .entry)) (now («kept_co2» .entry)) (now (ends .entry)) (now (ranks .entry)) in
+        let left = lentOf (now («kept_speeds» .exit)) (now («kept_co2» .exit)) (now (ends .exit)) (now (ranks .exit)) in
+        ⌜ (r ≡ answerOf plan trip (roomsIn lent))
+        × (left ≡ lentLeft plan trip lent) ⌝ }
 {
     let rooms = Rooms {
         speeds: kept_speeds.len(),

@@ -22,7 +22,9 @@ pub fn fault_of(
     nox: &[u32],
     rooms: Rooms,
 ) -> Fault
-    ensures { λ r. ⌜ r ≡ tripFault plan (lanesOf (now (states .entry)) (now (speeds .entry)) (now (altitudes .entry)) (now (co2 .entry)) (now (nox .entry))) rooms ⌝ }
+    ensures { λ r.
+        let trip = lanesOf (now (states .entry)) (now (speeds .entry)) (now (altitudes .entry)) (now (co2 .entry)) (now (nox .entry)) in
+        ⌜ r ≡ tripFault plan trip rooms ⌝ }
 {
     if !base::plan_in_range(plan) {
         return base::fault_at(base::refusal::PLAN_OUT_OF_RANGE, 0);

@@ -11,7 +11,8 @@ use lib.Dec.{eqb}
 use lib.ListN.{getD}
 use lib.Pow.{high-ones, pow-pos}
 use Rattle.base.specs.Words.{pick}
-use Rattle.verdict.specs.Verdict.{numberOf, bitSet, hasAny}
+use Rattle.verdict.specs.Verdict.{bitSet, hasAny}
+use Rattle.verdict.proofs.Numbers.{numberOf}
 
 -- the lowest bit, and the number without it
 lowest : (bit : Bool) (rest : ℕ) → eqb ((pick bit 1 0 + 2 * rest) % 2) 1 ≡ bit

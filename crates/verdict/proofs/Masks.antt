@@ -9,7 +9,9 @@ use lib.Bits.{bitOr, or-shifted-r}
 use Rattle.base.specs.Words.{pick}
 use Rattle.reasons.specs.declared.Figures.{Figures}
 use Rattle.reasons.specs.Reasons.{holds, allReasons}
-use Rattle.verdict.specs.Verdict.{numberOf, verdict, marked}
+use Rattle.verdict.specs.Verdict.{verdict}
+use Rattle.verdict.specs.Inside.{marked}
+use Rattle.verdict.proofs.Numbers.{numberOf, verdict-number}
 
 -- a mark with bit k, above the bits that are there, adds it
 mark-adds : (k acc : ℕ) (on : Bool) → acc < 2 ^ k → marked acc (2 ^ k) on ≡ acc + 2 ^ k * pick on 1 0
@@ -40,5 +42,4 @@ mark-all k acc (on ∷ rest) small =
 
 -- the sixteen marks make the verdict
 pub marks-make-verdict : (f : Figures) → markAll 0 0 (map (λ reason. holds reason f) allReasons) ≡ verdict f
-unfolding verdict
-marks-make-verdict f = mark-all 0 0 (map (λ reason. holds reason f) allReasons) (omega arith) ∙ omega arith
+marks-make-verdict f = mark-all 0 0 (map (λ reason. holds reason f) allReasons) (omega arith) ∙ omega (arith, verdict-number f)

@@ -1,2 +1,3 @@
 -- The definition of the verdict.
 pub mod Verdict
+pub mod Inside

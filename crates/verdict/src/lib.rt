@@ -3,8 +3,9 @@
 use reasons::Figures;
 ghost use mathlib.Core.Path.{_≡_};
 ghost use Prim.Native.Nat.{_≤_};
-ghost use Rattle.climb.specs.Climb.{climbMost};
-ghost use Rattle.verdict.specs.Verdict.{marked, hasAny, verdict};
+ghost use Rattle.climb.specs.Inside.{climbMost};
+ghost use Rattle.verdict.specs.Verdict.{hasAny, verdict};
+ghost use Rattle.verdict.specs.Inside.{marked};
 
 // The masks of the reasons: each is the bit of one reason in the verdict.
 pub const TRIP_LENGTH: u16 = 0x0001;

@@ -1,12 +1,12 @@
 -- What a caller cites of two-word numbers: a value has one pair of words, and a bound on a value bounds its high word,
--- by which the room of `sum` and `times` is shown. Assumes nothing.
+-- by which the room of `sum` is shown. Assumes nothing.
 use mathlib.Core.Path.{_≡_}
 use Prim.Native.Nat.{ℕ, _*_, _^_, _≤_, _<_}
 use native.Mathlib.Nat.{lt-of-le-of-lt, mul-le-mul}
 use native.Mathlib.Omega.{arith}
 use lib.Dec.{T, ltb, ltb→lt}
 use Rattle.wide.specs.declared.Wide.{Wide}
-use Rattle.wide.specs.Wide.{value}
+use Rattle.wide.specs.Inside.{value}
 
 -- equal values have equal words, where the low words are words
 pub determined : (v w : Wide) → v .lo < 2 ^ 64 → w .lo < 2 ^ 64 → value v ≡ value w → v ≡ w

@@ -1,2 +1,2 @@
--- The definition of two-word numbers.
-pub mod Wide
+-- The number that two words stand for: inside the exact comparisons.
+pub mod Inside

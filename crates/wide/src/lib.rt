@@ -1,8 +1,8 @@
 // Unsigned numbers of two words, for the exact comparisons, whose products and sums pass 64 bits.
 ghost use mathlib.Core.Path.{_≡_};
-ghost use Prim.Native.Nat.{_+_, _*_, _^_, _≤_, _<_};
+ghost use Prim.Native.Nat.{_+_, _*_, _^_, _<_};
 ghost use lib.Dec.{ltb};
-ghost use Rattle.wide.specs.Wide.{value};
+ghost use Rattle.wide.specs.Inside.{value};
 
 // The number hi * 2^64 + lo.
 pub struct Wide {
@@ -12,13 +12,6 @@ pub struct Wide {
 
 // 2^32: a word x has the halves x / HALF and x % HALF.
 const HALF: u64 = 0x1_0000_0000;
-
-// A word as a number of two words.
-pub fn wide_of(x: u64) -> Wide
-    ensures { λ r. ⌜ value r ≡ x ⌝ }
-{
-    Wide { hi: 0, lo: x }
-}
 
 // The whole product of two words: the four products of their halves, each added at its place.
 pub fn product(a: u64, b: u64) -> Wide
@@ -61,21 +54,6 @@ pub fn sum(a: Wide, b: Wide) -> Wide
         let carried = hi + 1;
         return Wide { hi: carried, lo };
     }
-    Wide { hi, lo }
-}
-
-// The product with a word b, where the high word's product leaves room for what the low word's
-// carries, at most b - 1.
-pub fn times(a: Wide, b: u64) -> Wide
-    requires { ⌜ a .hi * b + b ≤ 2 ^ 64 ⌝ }
-    ensures { λ r. ⌜ value r ≡ value a * b ⌝ }
-{
-    let a_hi = a.hi;
-    let a_lo = a.lo;
-    let low = product(a_lo, b);
-    let carry = low.hi;
-    let lo = low.lo;
-    let hi = a_hi * b + carry;
     Wide { hi, lo }
 }
 

@@ -6,7 +6,7 @@ use native.Mathlib.Omega.{arith}
 use lib.IntN.{ℤ, pos, negsuc, subℕ, _+ℤ_, _*ℤ_}
 use Rattle.base.specs.Limits.{curveMost}
 use Rattle.base.proofs.Products.{product-at-most}
-use Rattle.windows.specs.Figure.{floorBy, lineAt}
+use Rattle.windows.specs.Figure.{motorwayBelow, speedOfE2, fromE1ToE2, fromE2ToE3, floorBy, lineAt}
 use Rattle.windows.specs.Inside.{raisedBy, LineGiven}
 use Rattle.base.proofs.Integers.{sub-same}
 use Rattle.windows.proofs.Signs.{sub-above, sub-below, Order, order, times}
@@ -56,24 +56,24 @@ raised e a b w k h room (Order.below d p) =
 module _ (e f a w v : ℕ) (given : LineGiven e f a w v) where
   -- what the products of a line are at most
   pub record Bounds : Type 0 where
-    pub fv : f * v ≤ curveMost * 145_000
-    pub ea : e * a ≤ curveMost * 56_664
-    pub fa : f * a ≤ curveMost * 56_664
-    pub ev : e * v ≤ curveMost * 145_000
-    pub most : (e + raisedBy) * w ≤ (curveMost + raisedBy) * 37_782
-    pub least : raisedBy * 35_333 ≤ (e + raisedBy) * w
+    pub fv : f * v ≤ curveMost * motorwayBelow
+    pub ea : e * a ≤ curveMost * speedOfE2
+    pub fa : f * a ≤ curveMost * speedOfE2
+    pub ev : e * v ≤ curveMost * motorwayBelow
+    pub most : (e + raisedBy) * w ≤ (curveMost + raisedBy) * fromE1ToE2
+    pub least : raisedBy * fromE2ToE3 ≤ (e + raisedBy) * w
 
   pub bounds : Bounds
   bounds =
-      let v-most : v ≤ 145_000 = omega (arith, given .v-most) in
+      let v-most : v ≤ motorwayBelow = omega (arith, given .v-most) in
       let raised-most : e + raisedBy ≤ curveMost + raisedBy = omega (arith, given .e-most) in
       let raised-least : raisedBy ≤ e + raisedBy = omega arith in
       record {
-        fv = product-at-most (curveMost * 145_000) (given .f-most) v-most tt;
-        ea = product-at-most (curveMost * 56_664) (given .e-most) (given .a-most) tt;
-        fa = product-at-most (curveMost * 56_664) (given .f-most) (given .a-most) tt;
-        ev = product-at-most (curveMost * 145_000) (given .e-most) v-most tt;
-        most = product-at-most ((curveMost + raisedBy) * 37_782) raised-most (given .w-most) tt;
+        fv = product-at-most (curveMost * motorwayBelow) (given .f-most) v-most tt;
+        ea = product-at-most (curveMost * speedOfE2) (given .e-most) (given .a-most) tt;
+        fa = product-at-most (curveMost * speedOfE2) (given .f-most) (given .a-most) tt;
+        ev = product-at-most (curveMost * motorwayBelow) (given .e-most) v-most tt;
+        most = product-at-most ((curveMost + raisedBy) * fromE1ToE2) raised-most (given .w-most) tt;
         least = mul-le-mul raised-least (given .w-least);
       }
 

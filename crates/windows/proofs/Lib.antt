@@ -4,6 +4,5 @@ pub mod Curve
 pub mod Band
 pub mod PlanRanges
 pub mod Classes
+pub mod Parts
 pub mod Counts
-pub mod AfterSweep
-pub mod ByClass

@@ -1,6 +1,6 @@
 -- What a window is judged by (Appendix 5), from the plan, the sum S of its speeds, its CO2 m in mg and its length n.
 -- A window has at least one second and each is kept, so n is at least 1 and S at least 100 n.
-use Prim.Native.Nat.{ℕ, _+_, _-_, _*_, _/_}
+use Prim.Native.Nat.{ℕ, _*_, _/_}
 use mathlib.Core.Bool.{Bool, false, _&&_}
 use lib.Dec.{leb, ltb, eqb}
 use lib.IntN.{ℤ, pos, negsuc, _+ℤ_, _-ℤ_, _*ℤ_}
@@ -19,8 +19,17 @@ abbrev pub unclassed : ℕ
 unclassed = 3
 
 -- "Urban: v < 45,000. Rural: to below 80,000. Motorway: to below 145,000. Faster windows have no class."
+abbrev pub urbanBelow : ℕ
+urbanBelow = 45_000
+
+abbrev pub ruralBelow : ℕ
+ruralBelow = 80_000
+
+abbrev pub motorwayBelow : ℕ
+motorwayBelow = 145_000
+
 unfoldable pub classOf : ℕ → ℕ
-classOf v = pick (ltb v 45_000) urban (pick (ltb v 80_000) rural (pick (ltb v 145_000) motorway unclassed))
+classOf v = pick (ltb v urbanBelow) urban (pick (ltb v ruralBelow) rural (pick (ltb v motorwayBelow) motorway unclassed))
 
 -- the quotient by w, "floor towards minus infinity"; `negsuc a` is -(a + 1)
 unfoldable pub floorBy : ℤ → ℕ → ℤ
@@ -31,10 +40,23 @@ floorBy (negsuc a) w = negsuc (a / w)
 unfoldable pub lineAt : ℕ → ℕ → ℕ → ℕ → ℕ → ℤ
 lineAt e f a w v = pos e +ℤ floorBy ((pos f -ℤ pos e) *ℤ (pos v -ℤ pos a)) w
 
--- "for v up to 56,664, E1 + floor((E2-E1)(v-18,882)/37,782), also below 18,882; beyond, E2 + floor((E3-E2)(v-56,664)/35,333)"
+-- "for v up to 56,664, E1 + floor((E2-E1)(v-18,882)/37,782), also below 18,882; beyond, E2 + floor((E3-E2)(v-56,664)/35,333)":
+-- the mean speeds of E1 and of E2, and from each to the next
+abbrev pub speedOfE1 : ℕ
+speedOfE1 = 18_882
+
+abbrev pub fromE1ToE2 : ℕ
+fromE1ToE2 = 37_782
+
+abbrev pub speedOfE2 : ℕ
+speedOfE2 = 56_664
+
+abbrev pub fromE2ToE3 : ℕ
+fromE2ToE3 = 35_333
+
 unfoldable pub curve : Plan → ℕ → ℤ
 curve plan v =
-    pick (leb v 56_664) (lineAt (plan .e1) (plan .e2) 18_882 37_782 v) (lineAt (plan .e2) (plan .e3) 56_664 35_333 v)
+    pick (leb v speedOfE2) (lineAt (plan .e1) (plan .e2) speedOfE1 fromE1ToE2 v) (lineAt (plan .e2) (plan .e3) speedOfE2 fromE2ToE3 v)
 
 -- "Window figure w = floor(360,000 m / S), m its CO2 in mg."
 abbrev pub massPerKm : ℕ → ℕ → ℕ
@@ -43,7 +65,7 @@ massPerKm s m = 360_000 * m / s
 -- "Inside: 100w at least (100-lower)c and at most (100+upper)c."
 unfoldable pub inBand : ℕ → ℕ → ℤ → ℕ → Bool
 inBand lower upper c w =
-    leZ (pos (100 - lower) *ℤ c) (pos (100 * w)) && leZ (pos (100 * w)) (pos (100 + upper) *ℤ c)
+    leZ ((pos 100 -ℤ pos lower) *ℤ c) (pos (100 * w)) && leZ (pos (100 * w)) ((pos 100 +ℤ pos upper) *ℤ c)
 
 -- "upper tolerances for urban, rural, motorway"
 unfoldable pub upperOf : Plan → ℕ → ℕ

@@ -1,15 +1,19 @@
--- What the steps inside may take for granted.
-use Prim.Native.Nat.{ℕ, _^_, _≤_, _<_}
+-- What the steps inside may take for granted, and what they are by definition.
+use Prim.Native.Nat.{ℕ, _+_, _*_, _^_, _≤_, _<_}
 use mathlib.Core.Path.{_≡_}
-use mathlib.Core.Bool.{true}
-use mathlib.Core.List.{List}
+use mathlib.Core.Bool.{Bool, true}
+use mathlib.Core.List.{List, [], _∷_}
 use lib.ListN.{length, getD}
 use Rattle.base.specs.declared.Plan.{Plan}
-use Rattle.base.specs.Limits.{speedMost, curveMost}
+use Rattle.base.specs.Limits.{tripLimit, speedMost, curveMost}
 use Rattle.base.specs.Plan.{planInRange}
-use Rattle.base.specs.Words.{sum}
+use Rattle.base.specs.Roads.{urban, rural, motorway}
+use Rattle.base.specs.Words.{pick, sum}
 use Rattle.kept.specs.Kept.{keptSpeedLeast}
 use Rattle.sweep.specs.Window.{windowEnd, windows}
+use Rattle.windows.specs.declared.ClassCount.{ClassCount}
+use Rattle.windows.specs.Figure.{unclassed, motorwayBelow, speedOfE2, fromE1ToE2, fromE2ToE3}
+use Rattle.windows.specs.Counts.{classCount}
 
 -- by how much the code raises the curve, so that it never falls below 0
 abbrev pub raisedBy : ℕ
@@ -19,36 +23,48 @@ raisedBy = 16_777_216
 pub record LineGiven (e f a w v : ℕ) : Type 0 where
   pub e-most : e ≤ curveMost
   pub f-most : f ≤ curveMost
-  pub a-most : a ≤ 56_664
-  pub w-least : 35_333 ≤ w
-  pub w-most : w ≤ 37_782
-  pub v-most : v < 145_000
+  pub a-most : a ≤ speedOfE2
+  pub w-least : fromE2ToE3 ≤ w
+  pub w-most : w ≤ fromE1ToE2
+  pub v-most : v < motorwayBelow
 
--- what judging one window is given: a plan in range, and a window that has seconds and moves
-pub record Judgeable (plan : Plan) (s n : ℕ) : Type 0 where
+-- what judging one window is given: a plan in range, seconds that are at most a trip's, speeds that move and that so many seconds
+-- can have, and a mass that fits a u32
+pub record Judgeable (plan : Plan) (s m n : ℕ) : Type 0 where
   pub plan-in-range : planInRange plan ≡ true
-  pub moves : 0 < s
   pub lasts : 0 < n
+  pub few : n ≤ tripLimit
+  pub moves : 0 < s
+  pub no-faster : s ≤ tripLimit * speedMost
+  pub light : m < 2 ^ 32
 
--- speeds in their range, whose sum fits a u32
+-- at most a trip's speeds, each in its range
 pub record KeptSpeeds (speeds : List ℕ) : Type 0 where
+  pub few : length speeds ≤ tripLimit
   pub each : (i : ℕ) → i < length speeds → getD speeds i 0 ≤ speedMost
-  pub fit : sum speeds < 2 ^ 32
 
 -- what the seconds of one window are
 pub record WindowSeconds (plan : Plan) (speeds co2 : List ℕ) : Type 0 where
-  pub judgeable : Judgeable plan (sum speeds) (length co2)
+  pub judgeable : Judgeable plan (sum speeds) (sum co2) (length co2)
   pub speeds-kept : KeptSpeeds speeds
-  pub masses-fit : sum co2 < 2 ^ 32
 
 -- the kept lanes of a trip whose sweep is over: the place of each window's first second has its end
 pub record SweptLanes (plan : Plan) (speeds co2 ends : List ℕ) (count : ℕ) : Type 0 where
   pub plan-in-range : planInRange plan ≡ true
   pub same-length : length speeds ≡ length co2
-  pub few : length co2 < 2 ^ 16
   pub each-moves : (i : ℕ) → i < length speeds → keptSpeedLeast ≤ getD speeds i 0
   pub speeds-kept : KeptSpeeds speeds
   pub masses-fit : sum co2 < 2 ^ 32
   pub places : length co2 ≤ length ends
   pub all : count ≡ windows (plan .reference) co2
   pub ended : (f : ℕ) → f < count → getD ends f 0 ≡ windowEnd (plan .reference) co2 f
+
+-- one window more
+abbrev pub withWindow : Bool → ClassCount → ClassCount
+withWindow inside count = record { windows = count .windows + 1; inside = count .inside + pick inside 1 0 }
+
+-- the array of counts: urban, rural, motorway, and the windows that have no class
+unfoldable pub countsOf : Plan → List ℕ → List ℕ → List ClassCount
+countsOf plan speeds co2 =
+    let count = classCount plan speeds co2 in
+    count urban ∷ count rural ∷ count motorway ∷ count unclassed ∷ []

@@ -8,14 +8,30 @@ ghost use mathlib.Core.Bool.{true};
 ghost use Prim.Native.Nat.{_^_, _<_, _≤_};
 ghost use lib.IntN.{subℕ};
 ghost use lib.ListN.{length};
+ghost use Rattle.base.specs.Limits.{toleranceMost};
 ghost use Rattle.base.specs.Plan.{planInRange};
 ghost use Rattle.base.specs.Words.{pick, sum};
-ghost use Rattle.windows.specs.Figure.{classOf, lineAt, curve, inBand, upperOf, figureOf};
-ghost use Rattle.windows.specs.Counts.{withWindow, countsOf};
-ghost use Rattle.windows.specs.Inside.{raisedBy, LineGiven, Judgeable, KeptSpeeds, WindowSeconds, SweptLanes};
+ghost use Rattle.windows.specs.Figure.{motorwayBelow, classOf, lineAt, curve, inBand, upperOf, figureOf};
+ghost use Rattle.windows.specs.Inside.{raisedBy, LineGiven, Judgeable, KeptSpeeds, WindowSeconds, SweptLanes, withWindow, countsOf};
 
 // Beside the three classes, the number of a window that has none; each indexes the counts.
 pub const UNCLASSED: usize = 3;
+
+// The mean speeds below which a window is urban, rural, motorway, 0.001 km/h.
+const URBAN_BELOW: u64 = 45_000;
+
+const RURAL_BELOW: u64 = 80_000;
+
+const MOTORWAY_BELOW: u64 = 145_000;
+
+// The mean speeds at which the curve has the values E1 and E2, and from each to the next.
+const SPEED_OF_E1: u64 = 18_882;
+
+const FROM_E1_TO_E2: u64 = 37_782;
+
+const SPEED_OF_E2: u64 = 56_664;
+
+const FROM_E2_TO_E3: u64 = 35_333;
 
 // A window judged.
 pub struct Figure {
@@ -68,7 +84,7 @@ fn judge_window(plan: Plan, speeds: &[u16], co2: &[u32]) -> Figure
 
 // Judges a window from the sum s of its speeds, its CO2 m in mg and its length n.
 pub fn judge(plan: Plan, s: u32, m: u32, n: usize) -> Figure
-    requires { ⌜ Judgeable plan s n ⌝ }
+    requires { ⌜ Judgeable plan s m n ⌝ }
     ensures { λ r. ⌜ r ≡ figureOf plan s m n ⌝ }
 {
     let v = 10 * (s as u64) / (n as u64);
@@ -88,13 +104,13 @@ pub fn judge(plan: Plan, s: u32, m: u32, n: usize) -> Figure
 fn class_of(v: u64) -> usize
     ensures { λ r. ⌜ r ≡ classOf v ⌝ }
 {
-    if v < 45_000 {
+    if v < URBAN_BELOW {
         return base::road::URBAN;
     }
-    if v < 80_000 {
+    if v < RURAL_BELOW {
         return base::road::RURAL;
     }
-    if v < 145_000 {
+    if v < MOTORWAY_BELOW {
         return base::road::MOTORWAY;
     }
     UNCLASSED
@@ -118,13 +134,13 @@ const RAISED_BY: u64 = 16_777_216;
 
 // The curve at a mean speed that has a class, raised.
 fn raised_curve(plan: Plan, v: u64) -> u64
-    requires { ⌜ (planInRange plan ≡ true) × (v < 145_000) ⌝ }
+    requires { ⌜ (planInRange plan ≡ true) × (v < motorwayBelow) ⌝ }
     ensures { λ r. ⌜ (subℕ r raisedBy ≡ curve plan v) × (r < 2 ^ 41) ⌝ }
 {
-    if v <= 56_664 {
-        return raised_line(plan.e1, plan.e2, 18_882, 37_782, v);
+    if v <= SPEED_OF_E2 {
+        return raised_line(plan.e1, plan.e2, SPEED_OF_E1, FROM_E1_TO_E2, v);
     }
-    raised_line(plan.e2, plan.e3, 56_664, 35_333, v)
+    raised_line(plan.e2, plan.e3, SPEED_OF_E2, FROM_E2_TO_E3, v)
 }
 
 // The line from the value e at speed a to the value f at speed a + w, raised: what (f - e)(v - a)
@@ -140,7 +156,7 @@ fn raised_line(e: u32, f: u32, a: u64, w: u64, v: u64) -> u64
 
 // Whether 100w is from (100 - lower)c to (100 + upper)c, c the curve.
 fn in_band(lower: u8, upper: u8, raised: u64, w: u64) -> bool
-    requires { ⌜ (lower ≤ 100) × (raised < 2 ^ 41) × (w < 2 ^ 51) ⌝ }
+    requires { ⌜ (lower ≤ toleranceMost) × (raised < 2 ^ 41) × (w < 2 ^ 51) ⌝ }
     ensures { λ r. ⌜ r ≡ inBand lower upper (subℕ raised raisedBy) w ⌝ }
 {
     if raised < RAISED_BY {

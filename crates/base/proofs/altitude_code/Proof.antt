@@ -12,7 +12,8 @@ use lib.Signed.{mag, nonNeg, leZ}
 use mir.Facts.{toZ-ofZ, toZ-pos}
 use mir.Syntax.{w32}
 use mir.Val.{hbits, Fits, SFits, toZ, ofZ}
-use Rattle.base.specs.Second.{altitudeInRange, height, altitudeCode}
+use Rattle.base.specs.Inside.{height, altitudeCode}
+use Rattle.base.specs.Second.{altitudeInRange}
 use Rattle.base.proofs.Altitude.{lowest, highest, in-range-between, height-is, height-at-most, code-in-range, code-out-of-range}
 use Rattle.base.proofs.altitude_code.Statement.{statement}
 use Rattle.base.proofs.altitude_code.Tie as tie

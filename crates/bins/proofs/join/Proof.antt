@@ -1,7 +1,7 @@
 -- `bins::join` meets its contract: the three bins are those of the definition. Assumes nothing.
 use borrow.Author.Needs.{needs}
 use mathlib.Core.Path.{refl}
-use Rattle.bins.specs.Bins.{joinedAll}
+use Rattle.bins.specs.Inside.{joinedAll}
 use Rattle.bins.proofs.join.Statement.{statement}
 use Rattle.bins.proofs.join.Tie as tie
 

@@ -3,13 +3,18 @@ use borrow.Author.Needs.{needs}
 use Prim.Native.Nat.{_*_, _≤_}
 use mathlib.Core.Path.{refl}
 use native.Mathlib.Omega.{arith}
+use Rattle.base.proofs.Integers.{size-of-sub}
 use Rattle.base.proofs.Products.{product-at-most}
-use Rattle.climb.specs.Climb.{codeMost, jumps}
+use Rattle.climb.specs.Corrected.{jumps}
+use Rattle.climb.specs.Inside.{codeMost}
 use Rattle.climb.proofs.jumps_to.Statement.{statement}
 use Rattle.climb.proofs.jumps_to.Tie as tie
 
 d-square : (c : tie.After-apart) → c .apart .result * c .apart .result ≤ codeMost * codeMost
-d-square c = product-at-most {m = codeMost} {n = codeMost} (codeMost * codeMost) (omega arith) (omega arith) tt
+d-square c =
+    let size = size-of-sub (c .before .args .recorded) (c .before .args .before) in
+    let small : c .apart .result ≤ codeMost = omega (arith, size) in
+    product-at-most {m = codeMost} {n = codeMost} (codeMost * codeMost) small small tt
 
 s-square : (c : tie.After-apart) → c .before .args .speed * c .before .args .speed ≤ 65_535 * 65_535
 s-square c = product-at-most {m = 65_535} {n = 65_535} (65_535 * 65_535) (omega arith) (omega arith) tt

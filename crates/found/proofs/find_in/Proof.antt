@@ -2,7 +2,9 @@
 use borrow.Author.Needs.{needs}
 use mathlib.Core.Path.{refl}
 use native.Mathlib.Omega.{arith}
+use Rattle.windows.specs.Inside.{countsOf}
 use Rattle.found.specs.Found.{foundIn, endsIn}
+use Rattle.found.specs.Inside.{threeOf}
 use Rattle.found.proofs.Keeps.{sweepable, windows-few, swept}
 use Rattle.found.proofs.find_in.Statement.{statement}
 use Rattle.found.proofs.find_in.Tie as tie
@@ -31,7 +33,7 @@ same-length : tie.Need-same-length
 same-length c = search needs
 
 returns : tie.Need-returns
-unfolding foundIn endsIn
+unfolding foundIn endsIn threeOf countsOf
 returns c =
     let s = c .before .before .before .before .before .before .sweep-all in
     (rw (s .ensures .0, s .ensures .1, c .three-of .ensures, c .before .before .count-windows .ensures) refl, s .ensures .2)

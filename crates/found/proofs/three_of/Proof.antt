@@ -1,7 +1,7 @@
 -- `found::three_of` meets its contract: it leaves the fourth count out. Assumes nothing.
 use borrow.Author.Needs.{needs}
 use mathlib.Core.Path.{refl}
-use Rattle.found.specs.Found.{threeOf}
+use Rattle.found.specs.Inside.{threeOf}
 use Rattle.found.proofs.three_of.Statement.{statement}
 use Rattle.found.proofs.three_of.Tie as tie
 

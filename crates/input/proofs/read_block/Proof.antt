@@ -1,7 +1,8 @@
 -- `input::read_block` meets its contract: what came is fed to the reader once, and nothing where nothing came. Assumes nothing.
-use mathlib.Core.Path.{_≡_, refl, _∙_}
+use mathlib.Core.Path.{_≡_, refl, sym, _∙_}
 use native.Mathlib.Omega.{arith}
 use lib.ListN.{length}
+use Rattle.reader.proofs.Carry.{places-are}
 use Rattle.input.proofs.Blocks.{has-fed-nothing, block-of, has-fed}
 use Rattle.input.proofs.Reading.{goes-by-reader}
 use borrow.Author.Needs.{needs}
@@ -24,7 +25,7 @@ same-length c = search needs
 returns : tie.Need-returns
 returns c =
     let start = c .before .before .before .before .before .before .before .before .before .before .before .before in
-    (has-fed-nothing _ (start .args .reader) (start .pre .0 .made) (held-long start), (omega arith, refl))
+    (has-fed-nothing _ (start .args .reader) (start .pre .0 .made) (held-long start ∙ sym places-are), (omega arith, refl))
 
 slice-reshare-prefix-feed : tie.Need-slice-reshare-prefix-feed
 slice-reshare-prefix-feed c = search needs
@@ -61,7 +62,7 @@ returns-2 c =
     let start = ready .before .before .before .before .before .before .before .before .before .before .before .before .before .before .before .before .before .before in
     let long = ready .before .before .before .before .before .before .before .before .before .before .before .read .kept .1 .0 ∙ start .pre .1 in
     let bytes = ready .before .before .before .before .before .before .before .before .before .slice-known6 .given in
-    (has-fed _ _ (start .args .reader) _ (start .pre .0 .made) (feed .result) (block-of (count .result) _ long (λ i. omega (arith, bytes i))) (feed .ensures .0) (feed .ensures .1 .0) (feed .ensures .1 .1 .0) (feed .ensures .1 .1 .1 .0) (feed .ensures .1 .1 .1 .1 .0) (feed .ensures .1 .1 .1 .1 .1), (omega (arith, count .ensures .0 .0, long), goes-by-reader (count .result) (feed .result .reader .refusal) (ready .before .before .before .before .before .before .if1 .left)))
+    (has-fed _ _ (start .args .reader) _ (start .pre .0 .made) (feed .result) (block-of (count .result) _ long (λ i. omega (arith, bytes i))) (feed .ensures .0) (feed .ensures .1), (omega (arith, count .ensures .0 .0, long), goes-by-reader (count .result) (feed .result .reader .refusal) (ready .before .before .before .before .before .before .if1 .left)))
 
 pub read-block-spec : {M : Type 1} → statement M
 read-block-spec =

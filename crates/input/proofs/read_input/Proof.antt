@@ -4,6 +4,7 @@ use mathlib.Core.Path.{_≡_, refl, _∙_}
 use native.Mathlib.Omega.{arith}
 use lib.ListN.{length}
 use Rattle.second.specs.Lanes.{lanesOf}
+use Rattle.input.proofs.Settling.{enough-is}
 use Rattle.input.proofs.Reading.{Stands, stands-first, stands-next, reaches-all}
 use borrow.Author.Needs.{needs}
 use Rattle.input.proofs.read_input.Statement.{statement}
@@ -21,7 +22,7 @@ start-requires : tie.Need-start-requires Inv-loop μ-loop
 start-requires c κs = search needs
 
 loop-holds : tie.Need-loop-holds Inv-loop μ-loop
-loop-holds c = (refl, refl, refl, refl, refl, refl, stands-first _ _ _ (c .start .ensures) refl (omega arith))
+loop-holds c = (refl, refl, refl, refl, refl, refl, stands-first _ _ _ (c .start .ensures) refl (omega (arith, enough-is)))
 
 read-block-requires : tie.Need-read-block-requires Inv-loop μ-loop
 read-block-requires c κs =

@@ -11,7 +11,7 @@ use Rattle.judge.proofs.print_answer.Tie as tie
 
 -- the text lies within its buffer
 inside : (c : tie.After-write-text) → c .write-text .result ≤ length (c .write-text .last .1 .1 .1 .1 .1 .1 .1 .1 .1 .1 .0)
-inside c = rw (c .write-text .ensures .0, c .write-text .ensures .1 .0) (written-inside _ _)
+inside c = rw (c .write-text .ensures .0, c .write-text .ensures .1) (written-inside _ _)
 
 write-text-requires : tie.Need-write-text-requires
 write-text-requires c κs = search needs
@@ -48,8 +48,8 @@ same-length-5 c = search needs
 
 returns : tie.Need-returns
 returns c =
-    let written = c .before .before .before .before .before .before .before .before .before .before .before .before .before .before .before .write-text .ensures .1 in
-    (at-front _ _ _ (written .0) (written .1 .0) (c .before .before .before .before .before .before .before .before .before .before .before .before .before .before .before .before .before .before .before .before .before .before .before .before .before .before .before .before .before .before .pre), written .1 .1 .0, written .1 .1 .1 .0, written .1 .1 .1 .1 .0, written .1 .1 .1 .1 .1)
+    let written = c .before .before .before .before .before .before .before .before .before .before .before .before .before .before .before .write-text .ensures in
+    (at-front _ _ _ (written .1) (written .2) (c .before .before .before .before .before .before .before .before .before .before .before .before .before .before .before .before .before .before .before .before .before .before .before .before .before .before .before .before .before .before .pre), written .3)
 
 same-length-6 : tie.Need-same-length-6
 same-length-6 c = search needs
@@ -68,8 +68,8 @@ same-length-10 c = search needs
 
 returns-2 : tie.Need-returns-2
 returns-2 c =
-    let written = c .before .before .before .before .before .before .before .before .before .before .before .before .before .write-text .ensures .1 in
-    (at-front _ _ _ (written .0) (written .1 .0) (c .before .before .before .before .before .before .before .before .before .before .before .before .before .before .before .before .before .before .before .before .before .before .before .before .before .before .before .before .pre), written .1 .1 .0, written .1 .1 .1 .0, written .1 .1 .1 .1 .0, written .1 .1 .1 .1 .1)
+    let written = c .before .before .before .before .before .before .before .before .before .before .before .before .before .write-text .ensures in
+    (at-front _ _ _ (written .1) (written .2) (c .before .before .before .before .before .before .before .before .before .before .before .before .before .before .before .before .before .before .before .before .before .before .before .before .before .before .before .before .pre), written .3)
 
 pub print-answer-spec : {M : Type 1} → statement M
 print-answer-spec =

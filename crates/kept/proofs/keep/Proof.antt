@@ -82,7 +82,7 @@ returns : tie.Need-returns Inv-loop μ-loop
 returns c =
     let l = c .before .loop in
     let all : l .i ≡ length (c .before .before .before .before .before .before .before .args .states .now) = omega arith in
-    (rw (sym all) (l .inv .2 .counted), (rw (sym all) (l .inv .1 .stored), rw (sym all) (l .inv .2 .stored)))
+    (rw (sym all) (l .inv .2 .counted), rw (sym all) (l .inv .1 .stored), rw (sym all) (l .inv .2 .stored))
 
 pub keep-spec : {M : Type 1} → statement M
 keep-spec =

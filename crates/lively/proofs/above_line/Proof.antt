@@ -1,4 +1,4 @@
--- `lively::above_line` meets its contract: the high words are small, so the sum has room, and the products are those of the definition.
+-- `lively::above_line` meets its contract: a word times half a word leaves the sum room, and the products are those of the definition.
 -- Assumes nothing.
 use borrow.Author.Needs.{needs}
 use Prim.Native.Nat.{_*_, _-_, _^_}
@@ -18,12 +18,12 @@ product-requires-2 c κs = search needs
 
 sum-requires : tie.Need-sum-requires
 sum-requires c κs =
-    let first = product-high (c .before .product .result) 480_816 (2 ^ 32 - 1) 1 (c .before .product .ensures) (omega arith) (omega arith) tt in
-    let second = product-high (c .product2 .result) 12_289_968_000 (2 ^ 32 - 1) 4 (c .product2 .ensures) (omega arith) (omega arith) tt in
+    let first = product-high (c .before .product .result) (2 ^ 64 - 1) (2 ^ 32 - 1) (2 ^ 32) (c .before .product .ensures) (omega arith) (omega arith) tt in
+    let second = product-high (c .product2 .result) (2 ^ 64 - 1) (2 ^ 32 - 1) (2 ^ 32) (c .product2 .ensures) (omega arith) (omega arith) tt in
     omega arith
 
 mul-product : tie.Need-mul-product
-mul-product c = omega (arith, product-at-most {a = c .before .before .before .args .k} {b = c .before .before .before .args .n} {m = 25} {n = 2 ^ 32 - 1} (25 * (2 ^ 32 - 1)) (omega arith) (omega arith) tt)
+mul-product c = omega (arith, product-at-most {a = c .before .before .before .args .k} {b = c .before .before .before .args .n} {m = 2 ^ 32 - 1} {n = 2 ^ 32 - 1} ((2 ^ 32 - 1) * (2 ^ 32 - 1)) (omega arith) (omega arith) tt)
 
 product-requires-3 : tie.Need-product-requires-3
 product-requires-3 c κs = search needs

@@ -2,7 +2,7 @@
 use mathlib.Core.Bool.{false≢true}
 use lib.Dec.{lit≤}
 use lib.Ieee.{ofBits, ofInt}
-use Rattle.mass.specs.Bounded.{bounded}
+use Rattle.mass.specs.Inside.{bounded}
 use Rattle.mass.specs.Mass.{co2Mass}
 use Rattle.mass.proofs.co2_mass.Statement.{statement}
 use Rattle.mass.proofs.co2_mass.Tie as tie

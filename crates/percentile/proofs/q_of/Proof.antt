@@ -5,8 +5,7 @@ use Prim.Native.Nat.{_-_, _*_, _^_, _≤_}
 use mathlib.Core.Path.{sym}
 use lib.ListN.{length, getD}
 use native.Mathlib.Omega.{arith}
-use Rattle.percentile.specs.Percentile.{jOf, rOf}
-use Rattle.percentile.proofs.Interpolation.{q-is}
+use Rattle.percentile.proofs.Interpolation.{jOf, rOf, q-is}
 use Rattle.base.proofs.Products.{product-at-most}
 use Rattle.percentile.proofs.q_of.Statement.{statement}
 use Rattle.percentile.proofs.q_of.Tie as tie
@@ -18,11 +17,8 @@ small c =
     (omega (arith, c .shared-slice-known2 .given (jOf (length (c .before .before .args .ranked .now)))))
     tt
 
-mul-j : tie.Need-mul-j
-mul-j c = search needs
-
-mul-r : tie.Need-mul-r
-mul-r c = search needs
+mul-part : tie.Need-mul-part
+mul-part c = search needs
 
 sub-low : tie.Need-sub-low
 sub-low c = search needs
@@ -60,14 +56,13 @@ add-result : tie.Need-add-result
 add-result c = omega (arith, small c, c .before .shared-slice-known .given (jOf (length (c .before .before .args .ranked .now)) - 1))
 
 returns : tie.Need-returns
-returns c = sym (q-is (c .before .before .args .ranked .now))
+returns c = sym (q-is (c .before .before .args .ranked .now) (c .before .before .pre))
 
 pub q-of-spec : {M : Type 1} → statement M
 q-of-spec =
     tie.close
     (tie.spec
-    mul-j
-    mul-r
+    mul-part
     sub-low
     mul-low
     shared-slice-read-low

@@ -1,28 +1,19 @@
 -- `printed::judge_first` meets its contract: the parts that it lends are the first seconds of each lane. Assumes nothing.
 use borrow.Author.Needs.{needs}
 use mathlib.Core.Path.{_≡_, sym, subst}
-use mathlib.Core.List.{List}
-use Prim.Native.Nat.{ℕ}
 use lib.Seq.{length-take-le}
 use Rattle.base.specs.declared.Plan.{Plan}
 use Rattle.second.specs.Lanes.{Lanes, lanesOf}
 use Rattle.trip.specs.declared.Evaluated.{Evaluated}
-use Rattle.trip.specs.declared.Rooms.{Rooms}
-use Rattle.trip.specs.Refusals.{roomsOf}
 use Rattle.trip.specs.Trip.{answerOf}
-use Rattle.trip.specs.Lent.{keptSpeedsLane, keptCo2Lane, endsLane, ranksLane}
+use Rattle.trip.specs.Lent.{Lent, lentOf, roomsIn, lentLeft}
 use Rattle.printed.proofs.Fronts.{within, first-seconds}
 use Rattle.printed.proofs.judge_first.Statement.{statement}
 use Rattle.printed.proofs.judge_first.Tie as tie
 
 -- what the evaluation of a trip promises of its answer and of the lent lanes
-abbrev Left : Plan → Rooms → List ℕ → List ℕ → List ℕ → List ℕ → Evaluated → List ℕ → List ℕ → List ℕ → List ℕ → Lanes → Type 0
-Left plan rooms speeds co2 ends ranks answer speeds′ co2′ ends′ ranks′ trip =
-    (answer ≡ answerOf plan trip rooms)
-    × ((speeds′ ≡ keptSpeedsLane plan trip rooms speeds)
-    × ((co2′ ≡ keptCo2Lane plan trip rooms co2)
-    × ((ends′ ≡ endsLane plan trip rooms ends)
-    × (ranks′ ≡ ranksLane plan trip rooms ranks))))
+abbrev Left : Plan → Lent → Evaluated → Lent → Lanes → Type 0
+Left plan lent answer after trip = (answer ≡ answerOf plan trip (roomsIn lent)) × (after ≡ lentLeft plan trip lent)
 
 least-requires : tie.Need-least-requires
 least-requires c κs = search needs
@@ -74,7 +65,7 @@ returns c =
     let a = c .before .before .before .before .before .before .before .before .before .before .before .before .before .before .before .before .before .before .before .before .before .before .before .before .before .before .before .before .before .before .before .args in
     let left = c .before .before .before .before .before .before .before .before .evaluate .last .1 .1 .1 .1 .1 .1 in
     let first = first-seconds (a .seconds) (lanesOf (a .states .now) (a .speeds .now) (a .altitudes .now) (a .co2 .now) (a .nox .now)) _ _ _ _ _ (c .before .before .before .before .before .before .before .before .before .before .before .before .before .before .before .before .before .before .before .before .before .before .least .ensures) (c .before .before .before .before .before .before .before .before .before .before .before .before .before .before .before .before .before .before .before .before .before .least2 .ensures) (c .before .before .before .before .before .before .before .before .before .before .before .before .before .before .before .before .before .before .before .before .least3 .ensures) (c .before .before .before .before .before .before .before .before .before .before .before .before .before .before .before .before .before .before .before .least4 .ensures) (c .before .before .before .before .before .before .before .before .before .before .before .before .before .before .before .before .before .before .least5 .ensures) in
-    subst (Left (a .plan) (roomsOf (a .kept-speeds .now) (a .kept-co2 .now) (a .ends .now) (a .ranks .now)) (a .kept-speeds .now) (a .kept-co2 .now) (a .ends .now) (a .ranks .now) (c .before .before .before .before .before .before .before .before .evaluate .result) (left .0) (left .1 .0) (left .1 .1 .0) (left .1 .1 .1 .0)) first (c .before .before .before .before .before .before .before .before .evaluate .ensures)
+    subst (Left (a .plan) (lentOf (a .kept-speeds .now) (a .kept-co2 .now) (a .ends .now) (a .ranks .now)) (c .before .before .before .before .before .before .before .before .evaluate .result) (lentOf (left .0) (left .1 .0) (left .1 .1 .0) (left .1 .1 .1 .0))) first (c .before .before .before .before .before .before .before .before .evaluate .ensures)
 
 pub judge-first-spec : {M : Type 1} → statement M
 judge-first-spec =

@@ -5,11 +5,10 @@ use native.Mathlib.Omega.{arith}
 use Rattle.base.specs.Refusal.{accepted}
 use Rattle.stream.specs.declared.ReadAnswer.{ReadAnswer}
 use Rattle.second.specs.Lanes.{Lanes, lanesOf}
-use Rattle.trip.specs.declared.Rooms.{Rooms}
-use Rattle.trip.specs.Refusals.{roomsOf}
+use Rattle.trip.specs.Lent.{Lent, lentOf, roomsIn}
 use Rattle.report.proofs.Lengths.{refusal-longest}
 use Rattle.printed.specs.Printed.{tripText}
-use Rattle.printed.proofs.Texts.{refused-text, refused-speeds, refused-co2, refused-ends, refused-ranks, read-text, read-speeds, read-co2, read-ends, read-ranks}
+use Rattle.printed.proofs.Texts.{refused-text, refused-lent, read-text, read-lent}
 use Rattle.printed.proofs.write_text.Statement.{statement}
 use Rattle.printed.proofs.write_text.Tie as tie
 
@@ -19,8 +18,8 @@ read c = c .args .read
 abbrev lanes : tie.Start → Lanes
 lanes c = lanesOf (c .args .states .now) (c .args .speeds .now) (c .args .altitudes .now) (c .args .co2 .now) (c .args .nox .now)
 
-abbrev rooms : tie.Start → Rooms
-rooms c = roomsOf (c .args .kept-speeds .now) (c .args .kept-co2 .now) (c .args .ends .now) (c .args .ranks .now)
+abbrev lent : tie.Start → Lent
+lent c = lentOf (c .args .kept-speeds .now) (c .args .kept-co2 .now) (c .args .ends .now) (c .args .ranks .now)
 
 report-refusal-requires : tie.Need-report-refusal-requires
 report-refusal-requires c κs = search needs
@@ -33,8 +32,8 @@ returns c =
     let here = c .before .before .before .before .before .before .before .before .before .before .before .before .before .before .before in
     let is-bad : read here .refusal ≡ accepted → ⊥ = λ (zero : read here .refusal ≡ accepted). omega arith in
     let wrote = c .before .before .report-refusal .ensures in
-    let text = refused-text (read here) (lanes here) (rooms here) is-bad in
-    (rw text (wrote .0), (rw text (wrote .1), (rw text (refusal-longest (read here .refusal) (read here .place) (omega arith) (omega arith)), (sym (refused-speeds _ _ _ is-bad _), (sym (refused-co2 _ _ _ is-bad _), (sym (refused-ends _ _ _ is-bad _), sym (refused-ranks _ _ _ is-bad _)))))))
+    let text = refused-text (read here) (lanes here) is-bad (roomsIn (lent here)) in
+    (rw text (wrote .0), rw text (wrote .1), rw text (refusal-longest (read here .refusal) (read here .place) (omega arith) (omega arith)), sym (refused-lent (read here) (lanes here) is-bad (lent here)))
 
 judge-first-requires : tie.Need-judge-first-requires
 judge-first-requires c κs = search needs
@@ -63,8 +62,8 @@ returns-2 c =
     let is-good : read here .refusal ≡ accepted = omega (arith, c .before .before .before .before .before .before .before .before .before .before .before .before .before .before .before .before .before .if1 .left) in
     let judged = c .before .before .before .before .before .before .before .before .before .before .before .before .judge-first .ensures in
     let wrote = c .before .before .write-trip .ensures in
-    let text = read-text (read here) (lanes here) (rooms here) is-good ∙ ap tripText (sym (judged .0)) in
-    (rw text (wrote .0), (rw text (wrote .1), (rw text (wrote .2), (judged .1 .0 ∙ sym (read-speeds _ _ _ is-good _), (judged .1 .1 .0 ∙ sym (read-co2 _ _ _ is-good _), (judged .1 .1 .1 .0 ∙ sym (read-ends _ _ _ is-good _), judged .1 .1 .1 .1 ∙ sym (read-ranks _ _ _ is-good _)))))))
+    let text = read-text (read here) (lanes here) is-good (roomsIn (lent here)) ∙ ap tripText (sym (judged .0)) in
+    (rw text (wrote .0), rw text (wrote .1), rw text (wrote .2), judged .1 ∙ sym (read-lent (read here) (lanes here) is-good (lent here)))
 
 pub write-text-spec : {M : Type 1} → statement M
 write-text-spec =

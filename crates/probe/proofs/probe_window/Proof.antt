@@ -1,8 +1,12 @@
--- `probe::probe_window` meets its contract: its tests are the definition's, in its order, and where all pass the window can be judged. Assumes nothing.
+-- `probe::probe_window` meets its contract: its tests are the definition's, in its order, and where both pass the window can be judged. Assumes nothing.
+use Prim.Native.Nat.{_*_}
 use mathlib.Core.Path.{sym, _∙_}
+use mathlib.Core.Bool.{_&&_, and-eq-true-iff}
 use native.Mathlib.Omega.{arith}
-use borrow.Author.Tests.{not-true, not-false, eq-eqb, ne-eqb}
+use borrow.Author.Tests.{not-true, not-false, leb-true}
 use borrow.Author.Needs.{needs}
+use lib.Dec.{leb}
+use Rattle.base.specs.Limits.{tripLimit, speedMost}
 use Rattle.probe.specs.Window.{windowProbe}
 use Rattle.probe.proofs.probe_window.Statement.{statement}
 use Rattle.probe.proofs.probe_window.Tie as tie
@@ -14,29 +18,38 @@ returns : tie.Need-returns
 unfolding windowProbe
 returns c = rw (← (c .before .plan-in-range .ensures), not-true (c .before .plan-in-range .result) (c .if1 .taken))
 
+window-in-range-requires : tie.Need-window-in-range-requires
+window-in-range-requires c κs = search needs
+
 returns-2 : tie.Need-returns-2
 unfolding windowProbe
-returns-2 c = rw (← (c .before .before .plan-in-range .ensures), not-false (c .before .before .plan-in-range .result) (c .before .if1 .left), eq-eqb _ 0 (c .if2 .taken))
+returns-2 c =
+    rw (← (c .before .before .before .plan-in-range .ensures), not-false (c .before .before .before .plan-in-range .result) (c .before .before .if1 .left), ← (c .before .window-in-range .ensures), not-true (c .before .window-in-range .result) (c .if2 .taken))
+
+judge-requires : tie.Need-judge-requires
+judge-requires c κs =
+    let start = c .before .before .before .before in
+    let s = start .args .s in
+    let n = start .args .n in
+    let fine = sym (c .before .window-in-range .ensures) ∙ not-false (c .before .window-in-range .result) (c .if2 .left) in
+    let first = and-eq-true-iff (leb 1 n && leb n tripLimit && leb 1 s) (leb s (tripLimit * speedMost)) .0 fine in
+    let second = and-eq-true-iff (leb 1 n && leb n tripLimit) (leb 1 s) .0 (first .0) in
+    let third = and-eq-true-iff (leb 1 n) (leb n tripLimit) .0 (second .0) in
+    record {
+      plan-in-range = sym (c .before .before .before .plan-in-range .ensures) ∙ not-false (c .before .before .before .plan-in-range .result) (c .before .before .if1 .left);
+      lasts = leb-true 1 n (third .0);
+      few = leb-true n tripLimit (third .1);
+      moves = leb-true 1 s (second .1);
+      no-faster = leb-true s (tripLimit * speedMost) (first .1);
+      light = omega arith;
+    }
 
 returns-3 : tie.Need-returns-3
 unfolding windowProbe
 returns-3 c =
-    rw (← (c .before .before .before .plan-in-range .ensures), not-false (c .before .before .before .plan-in-range .result) (c .before .before .if1 .left), ne-eqb _ 0 (c .before .if2 .left), eq-eqb _ 0 (c .if3 .taken))
-
-judge-requires : tie.Need-judge-requires
-judge-requires c κs =
-    record {
-      plan-in-range = sym (c .before .before .before .plan-in-range .ensures) ∙ not-false (c .before .before .before .plan-in-range .result) (c .before .before .if1 .left);
-      moves = omega arith;
-      lasts = omega arith;
-    }
-
-returns-4 : tie.Need-returns-4
-unfolding windowProbe
-returns-4 c =
-    rw (← (c .before .before .before .before .plan-in-range .ensures), not-false (c .before .before .before .before .plan-in-range .result) (c .before .before .before .if1 .left), ne-eqb _ 0 (c .before .before .if2 .left), ne-eqb _ 0 (c .before .if3 .left), c .judge .ensures)
+    rw (← (c .before .before .before .before .plan-in-range .ensures), not-false (c .before .before .before .before .plan-in-range .result) (c .before .before .before .if1 .left), ← (c .before .before .window-in-range .ensures), not-false (c .before .before .window-in-range .result) (c .before .if2 .left), c .judge .ensures)
 
 pub probe-window-spec : {M : Type 1} → statement M
 probe-window-spec =
     tie.close
-    (tie.spec plan-in-range-requires returns returns-2 returns-3 judge-requires returns-4)
+    (tie.spec plan-in-range-requires returns window-in-range-requires returns-2 judge-requires returns-3)

@@ -4,11 +4,14 @@ use mathlib.Core.Path.{refl}
 use Rattle.reasons.proofs.is_dull.Statement.{statement}
 use Rattle.reasons.proofs.is_dull.Tie as tie
 
+has-few-requires : tie.Need-has-few-requires
+has-few-requires c κs = search needs
+
 too-dull-requires : tie.Need-too-dull-requires
 too-dull-requires c κs = search needs
 
 returns : tie.Need-returns
-returns c = rw (c .too-dull .ensures) refl
+returns c = rw (c .too-dull .ensures, c .before .has-few .ensures) refl
 
 pub is-dull-spec : {M : Type 1} → statement M
-is-dull-spec = tie.close (tie.spec too-dull-requires returns)
+is-dull-spec = tie.close (tie.spec has-few-requires too-dull-requires returns)

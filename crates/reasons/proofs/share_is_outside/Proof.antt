@@ -13,10 +13,10 @@ percent-fits percent whole p q =
     omega (arith, product-at-most {m = 256} {n = 4_294_967_296} (2 ^ 40) low high tt)
 
 mul-is-outside : tie.Need-mul-is-outside
-mul-is-outside c = record { fits = percent-fits (c .args .low) (c .args .total) (search needs) (search needs) }
+mul-is-outside c = record { fits = percent-fits (c .args .low) (c .args .whole) (search needs) (search needs) }
 
 mul-is-outside-2 : tie.Need-mul-is-outside-2
-mul-is-outside-2 c = record { fits = percent-fits (c .args .high) (c .args .total) (search needs) (search needs) }
+mul-is-outside-2 c = record { fits = percent-fits (c .args .high) (c .args .whole) (search needs) (search needs) }
 
 mul-is-outside-3 : tie.Need-mul-is-outside-3
 mul-is-outside-3 c = search needs

@@ -17,15 +17,15 @@ array-copy-out-motorway c = search needs
 share-is-outside-requires : tie.Need-share-is-outside-requires
 share-is-outside-requires c κs = search needs
 
-share-is-outside-requires-2 : tie.Need-share-is-outside-requires-2
-share-is-outside-requires-2 c κs = search needs
+other-is-outside-requires : tie.Need-other-is-outside-requires
+other-is-outside-requires c κs = search needs
 
-share-is-outside-requires-3 : tie.Need-share-is-outside-requires-3
-share-is-outside-requires-3 c κs = search needs
+other-is-outside-requires-2 : tie.Need-other-is-outside-requires-2
+other-is-outside-requires-2 c κs = search needs
 
 returns : tie.Need-returns
 unfolding holds
-returns c = rw (c .share-is-outside3 .ensures, c .before .share-is-outside2 .ensures, c .before .before .share-is-outside .ensures) refl
+returns c = rw (c .other-is-outside2 .ensures, c .before .other-is-outside .ensures, c .before .before .share-is-outside .ensures) refl
 
 pub share-of-distance-spec : {M : Type 1} → statement M
 share-of-distance-spec =
@@ -35,6 +35,6 @@ share-of-distance-spec =
     array-copy-out-rural
     array-copy-out-motorway
     share-is-outside-requires
-    share-is-outside-requires-2
-    share-is-outside-requires-3
+    other-is-outside-requires
+    other-is-outside-requires-2
     returns)

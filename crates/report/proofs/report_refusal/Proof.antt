@@ -5,7 +5,7 @@ use native.Mathlib.Omega.{arith}
 use lib.ListN.{length}
 use borrow.Author.Needs.{needs}
 use Rattle.report.specs.Lines.{refusalText}
-use Rattle.text.specs.Steps.{Wrote}
+use Rattle.text.specs.Inside.{Wrote}
 use Rattle.report.proofs.Lengths.{refusal-length}
 use Rattle.text.proofs.Writing.{wrote-same-length}
 use Rattle.report.proofs.Fitting.{wrote-length, wrote-buffer, short-length, short-buffer}

@@ -1,7 +1,7 @@
 -- `tally::counts_with` meets its contract: each count is that of the definition. Assumes nothing.
 use borrow.Author.Needs.{needs}
 use mathlib.Core.Path.{refl}
-use Rattle.tally.specs.Counts.{countsWith}
+use Rattle.tally.specs.Inside.{countsWith}
 use Rattle.tally.proofs.counts_with.Statement.{statement}
 use Rattle.tally.proofs.counts_with.Tie as tie
 

@@ -5,7 +5,7 @@ use Prim.Native.Nat.{_-_, _≤_, _<_}
 use mathlib.Core.Path.{_≡_, refl, sym, _∙_, ap}
 use native.Mathlib.Omega.{arith}
 use lib.ListN.{length}
-use Rattle.tally.specs.Tally.{binTalliesAfter}
+use Rattle.tally.specs.Inside.{binTalliesAfter}
 use Rattle.tally.proofs.Tallies.{bin-below, bins-none, bins-more, bin-room}
 use Rattle.tally.proofs.tally_bins.Statement.{statement}
 use Rattle.tally.proofs.tally_bins.Tie as tie

@@ -1,7 +1,7 @@
 -- `tally::total` meets its contract: the sums are those of the definition, and fit because the whole does. Assumes nothing.
 use borrow.Author.Needs.{needs}
 use mathlib.Core.Path.{refl}
-use Rattle.tally.specs.Tally.{added}
+use Rattle.tally.specs.Inside.{added}
 use Rattle.tally.proofs.total.Statement.{statement}
 use Rattle.tally.proofs.total.Tie as tie
 

@@ -2,7 +2,7 @@
 use borrow.Author.Needs.{needs}
 use mathlib.Core.Path.{refl, sym, _∙_}
 use borrow.Author.Tests.{not-true, not-false}
-use Rattle.tally.specs.Tally.{withSecond}
+use Rattle.tally.specs.Inside.{withSecond}
 use Rattle.tally.proofs.with_second.Statement.{statement}
 use Rattle.tally.proofs.with_second.Tie as tie
 

@@ -6,9 +6,11 @@ use Rattle.base.specs.Refusal.{accepted}
 use Rattle.base.specs.declared.Fault.{Fault}
 use Rattle.second.specs.Lanes.{Lanes, lanesOf}
 use Rattle.trip.specs.declared.Rooms.{Rooms}
-use Rattle.trip.specs.Refusals.{roomsOf, tripFault, isAccepted}
+use Rattle.trip.specs.Refusals.{tripFault, isAccepted}
+use Rattle.trip.specs.Lent.{Lent, lentOf, roomsIn, lentWritten}
 use Rattle.trip.proofs.Passed.{Accepted, passed, is-accepted, is-refused, findable, bin-lanes, climb-lanes}
-use Rattle.trip.proofs.Answers.{refused-answer, refused-speeds, refused-co2, refused-ends, refused-ranks, accepted-answer, accepted-speeds, accepted-co2, accepted-ends, accepted-ranks}
+use Rattle.trip.proofs.Answers.{refused-answer, refused-lent, accepted-answer, accepted-lent}
+use Rattle.trip.proofs.Written.{same-lent}
 use borrow.Author.Needs.{needs}
 use Rattle.trip.proofs.evaluate.Statement.{statement}
 use Rattle.trip.proofs.evaluate.Tie as tie
@@ -16,8 +18,11 @@ use Rattle.trip.proofs.evaluate.Tie as tie
 abbrev trip : tie.Start → Lanes
 trip c = lanesOf (c .args .states .now) (c .args .speeds .now) (c .args .altitudes .now) (c .args .co2 .now) (c .args .nox .now)
 
+abbrev lent : tie.Start → Lent
+lent c = lentOf (c .args .kept-speeds .now) (c .args .kept-co2 .now) (c .args .ends .now) (c .args .ranks .now)
+
 abbrev rooms : tie.Start → Rooms
-rooms c = roomsOf (c .args .kept-speeds .now) (c .args .kept-co2 .now) (c .args .ends .now) (c .args .ranks .now)
+rooms c = roomsIn (lent c)
 
 -- the test that lets a trip through
 number-zero : (c : tie.Else1) → tripFault (c .before .before .before .before .before .before .before .before .before .before .args .plan) (trip (c .before .before .before .before .before .before .before .before .before .before)) (rooms (c .before .before .before .before .before .before .before .before .before .before)) .number ≡ accepted
@@ -42,7 +47,7 @@ refused-for-requires c κs = search needs
 returns : tie.Need-returns
 returns c =
     let no = no-good (c .before) in
-    (rw (refused-answer _ _ _ no, ← c .before .before .fault-of .ensures) (c .refused-for .ensures), (sym (refused-speeds _ _ _ no _), (sym (refused-co2 _ _ _ no _), (sym (refused-ends _ _ _ no _), sym (refused-ranks _ _ _ no _)))))
+    (rw (refused-answer _ _ _ no, ← c .before .before .fault-of .ensures) (c .refused-for .ensures), sym (refused-lent _ _ _ no))
 
 find-requires : tie.Need-find-requires
 find-requires c κs = findable (ok (c .before .before .before))
@@ -66,11 +71,12 @@ same-length-4 : tie.Need-same-length-4
 same-length-4 c = search needs
 
 returns-2 : tie.Need-returns-2
+unfolding lentWritten
 returns-2 c =
     let yes = good (c .before .before .before .before .before .before .before .before .before .before .before .before .before .before .before) in
     let f = c .before .before .before .before .before .before .before .before .before .before .before .find .ensures in
     let m = c .before .before .before .measure .ensures in
-    (rw (accepted-answer _ _ _ yes, c .conclude .ensures, f .0, m .0) refl, (f .1 .0 ∙ sym (accepted-speeds _ _ _ yes _), (f .1 .1 .0 ∙ sym (accepted-co2 _ _ _ yes _), (f .1 .1 .1 ∙ sym (accepted-ends _ _ _ yes _), m .1 ∙ sym (accepted-ranks _ _ _ yes _)))))
+    (rw (accepted-answer _ _ _ yes, c .conclude .ensures, f .0, m .0) refl, same-lent (f .1) (f .2) (f .3) (m .1) ∙ sym (accepted-lent _ _ _ yes))
 
 pub evaluate-spec : {M : Type 1} → statement M
 evaluate-spec =

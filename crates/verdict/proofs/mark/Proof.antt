@@ -1,6 +1,6 @@
 -- `verdict::mark` meets its contract: it sets the mask's bits where the reason holds. Assumes nothing.
 use mathlib.Core.Path.{refl}
-use Rattle.verdict.specs.Verdict.{marked}
+use Rattle.verdict.specs.Inside.{marked}
 use Rattle.verdict.proofs.mark.Statement.{statement}
 use Rattle.verdict.proofs.mark.Tie as tie
 

@@ -7,7 +7,7 @@ use native.Mathlib.Omega.{arith}
 use lib.Dec.{ltb}
 use borrow.Author.Tests.{ltb-true, ltb-false, lt-ltb, le-ltb}
 use Rattle.wide.specs.declared.Wide.{Wide}
-use Rattle.wide.specs.Wide.{value}
+use Rattle.wide.specs.Inside.{value}
 use Rattle.wide.proofs.less.Statement.{statement}
 use Rattle.wide.proofs.less.Tie as tie
 

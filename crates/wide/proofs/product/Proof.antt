@@ -2,7 +2,7 @@
 use Prim.Native.Nat.{_-_, _^_}
 use native.Mathlib.Omega.{arith}
 use borrow.Author.Needs.{needs}
-use Rattle.wide.specs.Wide.{value}
+use Rattle.wide.specs.Inside.{value}
 use Rattle.wide.proofs.Laws.{high-below}
 use Rattle.wide.proofs.Halves.{Parts, parts, whole}
 use Rattle.wide.proofs.product.Statement.{statement}

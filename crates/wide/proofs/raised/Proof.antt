@@ -1,6 +1,6 @@
 -- The top half goes to the high word, the low half to the top of the low word.
 use native.Mathlib.Omega.{arith}
-use Rattle.wide.specs.Wide.{value}
+use Rattle.wide.specs.Inside.{value}
 use Rattle.wide.proofs.raised.Statement.{statement}
 use Rattle.wide.proofs.raised.Tie as tie
 

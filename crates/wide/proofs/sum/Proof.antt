@@ -1,7 +1,7 @@
 -- The low words' sum falls below one of them exactly when it turned over. It then lacks 2 ^ 64, the one that the high word gains.
 use native.Mathlib.Omega.{arith}
 use borrow.Author.Needs.{needs}
-use Rattle.wide.specs.Wide.{value}
+use Rattle.wide.specs.Inside.{value}
 use Rattle.wide.proofs.sum.Statement.{statement}
 use Rattle.wide.proofs.sum.Tie as tie
 

@@ -4,9 +4,9 @@ use Prim.Native.Nat.{_≤_, _<_, _-_}
 use mathlib.Core.Path.{_≡_, sym, _∙_, ap}
 use native.Mathlib.Omega.{arith}
 use Rattle.sweep.specs.Window.{windows}
-use Rattle.windows.specs.Counts.{windowFigure, counted}
+use Rattle.windows.specs.Counts.{windowFigure}
 use Rattle.windows.proofs.PlanRanges.{plan-ranges}
-use Rattle.windows.proofs.Counts.{countsAt, counts-none, counts-more, counts-all, counts-bounded, cell, Turn, turn, turn-seconds, turn-figure}
+use Rattle.windows.proofs.Counts.{countsAt, counts-none, counts-few, counts-more, counts-all, cell, Turn, turn, turn-seconds, turn-figure}
 use borrow.Author.Needs.{needs}
 use Rattle.windows.proofs.count_windows.Statement.{statement}
 use Rattle.windows.proofs.count_windows.Tie as tie
@@ -80,8 +80,7 @@ with-window-requires c κs =
     let l = c .before .before .before .before .before .before .loop in
     let a = c .before .before .before .before .before .before .before .before .before .before .args in
     let class = c .before .judge-window .result .class in
-    let most = counts-bounded (a .plan) (a .speeds .now) (a .co2 .now) (l .first) in
-    rw (l .inv .1) (omega (arith, most .few class, most .part class, here (c .before .before .before .before .before)))
+    rw (l .inv .1) (omega (arith, counts-few (a .plan) (a .speeds .now) (a .co2 .now) (l .first) class, here (c .before .before .before .before .before)))
 
 mul-counts : tie.Need-mul-counts Inv-loop μ-loop
 mul-counts c = omega (arith, known (c .before .before))
@@ -96,12 +95,11 @@ loop-less : tie.Need-loop-less Inv-loop μ-loop
 loop-less c = search needs
 
 loop-again : tie.Need-loop-again Inv-loop μ-loop
-unfolding counted
 loop-again c =
     let a = c .before .before .before .before .before .before .before .before .before .before .before .args in
     let l = c .before .before .before .before .before .before .before .loop in (
       omega arith,
-      rw (c .with-window .ensures, judged (c .before .before), l .inv .1, counts-more (a .plan) (a .speeds .now) (a .co2 .now) (l .first) (here (c .before .before .before .before .before .before) .has)),
+      rw (c .with-window .ensures, judged (c .before .before), l .inv .1) (counts-more (a .plan) (a .speeds .now) (a .co2 .now) (l .first) (here (c .before .before .before .before .before .before) .has)),
     )
 
 returns : tie.Need-returns Inv-loop μ-loop

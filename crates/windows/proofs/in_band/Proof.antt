@@ -41,7 +41,7 @@ mul-result-4 c = omega (arith, scaled (100 + c .before .args .upper) c (omega ar
 returns-2 : tie.Need-returns-2
 returns-2 c =
     let a = c .before .args in
-    sym (band-above (a .lower) (a .upper) (a .raised) raisedBy (a .w) (c .if1 .left))
+    sym (band-above (a .lower) (a .upper) (a .raised) raisedBy (a .w) (omega arith) (c .if1 .left))
 
 pub in-band-spec : {M : Type 1} → statement M
 in-band-spec =

@@ -5,6 +5,7 @@ use native.Mathlib.Omega.{arith}
 use lib.ListN.{length, getD}
 use Rattle.base.specs.Words.{sum}
 use Rattle.sweep.proofs.Prefix.{Halves, halves-none, halves-more, halves-most, halves-even, halves-odd}
+use Rattle.windows.proofs.Parts.{speeds-fit}
 use borrow.Author.Needs.{needs}
 use Rattle.windows.proofs.total_speed.Statement.{statement}
 use Rattle.windows.proofs.total_speed.Tie as tie
@@ -53,10 +54,10 @@ add-total-2 c =
     omega (arith, start .pre .each (l .before .loop .i) (omega arith), start .pre .each (length (start .args .speeds .now) / 2 + l .before .loop .i) (omega arith))
 
 cast-total : tie.Need-cast-total Inv-loop μ-loop
-cast-total c = omega (arith, most (c .before .before), c .before .before .before .before .pre .fit)
+cast-total c = omega (arith, most (c .before .before), speeds-fit (c .before .before .before .before .pre))
 
 add-total-3 : tie.Need-add-total-3 Inv-loop μ-loop
-add-total-3 c = omega (arith, most (c .before .before), c .before .before .before .before .pre .fit)
+add-total-3 c = omega (arith, most (c .before .before), speeds-fit (c .before .before .before .before .pre))
 
 add-i : tie.Need-add-i Inv-loop μ-loop
 add-i c = search needs
@@ -85,10 +86,10 @@ shared-slice-read-result : tie.Need-shared-slice-read-result Inv-loop μ-loop
 shared-slice-read-result c = search needs
 
 cast-result : tie.Need-cast-result Inv-loop μ-loop
-cast-result c = omega (arith, odd c, c .before .before .before .before .pre .fit)
+cast-result c = omega (arith, odd c, speeds-fit (c .before .before .before .before .pre))
 
 add-result-2 : tie.Need-add-result-2 Inv-loop μ-loop
-add-result-2 c = omega (arith, odd c, c .before .before .before .before .pre .fit)
+add-result-2 c = omega (arith, odd c, speeds-fit (c .before .before .before .before .pre))
 
 returns-2 : tie.Need-returns-2 Inv-loop μ-loop
 returns-2 c = odd c

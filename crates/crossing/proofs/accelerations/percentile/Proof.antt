@@ -2,7 +2,6 @@
 use mathlib.Core.Path.{refl}
 use borrow.Author.Needs.{needs}
 use Rattle.crossing.specs.Accelerations.{percentileAcross}
-use Rattle.percentile.specs.Percentile.{refusalOf, placeOf, valueOf}
 use Rattle.crossing.proofs.accelerations.percentile.Statement.{statement}
 use Rattle.crossing.proofs.accelerations.percentile.Tie as tie
 
@@ -19,14 +18,14 @@ same-length : tie.Need-same-length
 same-length c = search needs
 
 returns : tie.Need-returns
-unfolding percentileAcross refusalOf placeOf valueOf
+unfolding percentileAcross
 returns c = (rw (← (c .before .before .before .before .before .percentile .ensures .0), c .before .found .given .1) refl, c .before .before .before .before .before .percentile .ensures .1)
 
 same-length-2 : tie.Need-same-length-2
 same-length-2 c = search needs
 
 returns-2 : tie.Need-returns-2
-unfolding percentileAcross refusalOf placeOf valueOf
+unfolding percentileAcross
 returns-2 c = (rw (← (c .before .before .before .before .before .percentile .ensures .0), c .before .found2 .given .1) refl, c .before .before .before .before .before .percentile .ensures .1)
 
 pub percentile-spec : {M : Type 1} → statement M

@@ -1,4 +1,4 @@
--- `crossing::items::contents_of` meets its contract, row by row. Assumes nothing.
+-- `crossing::items::contents_of` meets its contract: a plan, or a second. Assumes nothing.
 use borrow.Author.Needs.{needs}
 use Rattle.crossing.specs.Items.{contentsOf}
 use Rattle.crossing.proofs.items.contents_of.Statement.{statement}
@@ -10,12 +10,6 @@ enum-known-item c = search needs
 enum-known-item-2 : tie.Need-enum-known-item-2
 enum-known-item-2 c = search needs
 
-enum-told : tie.Need-enum-told
-enum-told c = search needs
-
-enum-known-item-3 : tie.Need-enum-known-item-3
-enum-known-item-3 c = search needs
-
 returns : tie.Need-returns
 unfolding contentsOf
 returns c = rw (c .before .item .given .1)
@@ -24,23 +18,5 @@ returns-2 : tie.Need-returns-2
 unfolding contentsOf
 returns-2 c = rw (c .before .item2 .given .1)
 
-returns-3 : tie.Need-returns-3
-unfolding contentsOf
-returns-3 c = rw (c .enum-told .given .1)
-
-returns-4 : tie.Need-returns-4
-unfolding contentsOf
-returns-4 c = rw (c .before .item3 .given .1)
-
 pub contents-of-spec : {M : Type 1} → statement M
-contents-of-spec =
-    tie.close
-    (tie.spec
-    enum-known-item
-    enum-known-item-2
-    enum-told
-    enum-known-item-3
-    returns
-    returns-2
-    returns-3
-    returns-4)
+contents-of-spec = tie.close (tie.spec enum-known-item enum-known-item-2 returns returns-2)

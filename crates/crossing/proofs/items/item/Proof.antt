@@ -1,5 +1,8 @@
 -- `crossing::items::item` meets its contract: it is `item::read_item`, each case crossing as the definitions of `item` say. Assumes nothing.
+use mathlib.Core.Path.{sym, _∙_}
+use native.Mathlib.Omega.{arith}
 use borrow.Author.Needs.{needs}
+use Rattle.item.proofs.Prefix.{whole-some}
 use Rattle.item.specs.Item.{refusalOf, placeOf, lengthOf}
 use Rattle.crossing.specs.Items.{contentsAt, frontAcross}
 use Rattle.crossing.proofs.items.item.Statement.{statement}
@@ -10,6 +13,11 @@ read-item-requires c κs = search needs
 
 enum-known-front : tie.Need-enum-known-front
 enum-known-front c = search needs
+
+shared-slice-read-answer : tie.Need-shared-slice-read-answer
+shared-slice-read-answer c =
+    let bytes = c .before .before .before .before .before .before .args .bytes .now in
+    omega (arith, whole-some bytes _ _ (sym (c .before .before .before .before .read-item .ensures) ∙ c .before .before .front .given .1))
 
 contents-of-requires : tie.Need-contents-of-requires
 contents-of-requires c κs = search needs
@@ -43,7 +51,7 @@ answer-requires-5 c κs = search needs
 
 returns : tie.Need-returns
 unfolding frontAcross refusalOf contentsAt lengthOf placeOf
-returns c = rw (← (c .before .before .before .before .before .read-item .ensures), c .before .before .before .front .given .1, ← (c .before .contents-of .ensures), c .answer .ensures)
+returns c = rw (← (c .before .before .before .before .before .before .read-item .ensures), c .before .before .before .before .front .given .1, ← (c .before .contents-of .ensures), c .answer .ensures)
 
 returns-2 : tie.Need-returns-2
 unfolding frontAcross refusalOf contentsAt lengthOf placeOf
@@ -67,6 +75,7 @@ item-spec =
     (tie.spec
     read-item-requires
     enum-known-front
+    shared-slice-read-answer
     contents-of-requires
     answer-requires
     enum-told

@@ -2,7 +2,7 @@
 use Prim.Native.Nat.{_-_}
 use mathlib.Core.Path.{_≡_, refl, sym, _∙_}
 use lib.ListN.{length, drop}
-use Rattle.reader.specs.Made.{allZero}
+use Rattle.reader.specs.Inside.{allZero}
 use Rattle.reader.proofs.Testing.{zeros-end, zeros-on, zeros-broken}
 use borrow.Author.Needs.{needs}
 use Rattle.reader.proofs.made.all_zero.Statement.{statement}

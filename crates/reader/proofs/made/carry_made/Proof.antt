@@ -1,6 +1,6 @@
 -- `reader::made::carry_made` meets its contract: its tests are those of the definition. Assumes nothing.
 use mathlib.Core.Path.{refl}
-use Rattle.reader.specs.Made.{carryMade}
+use Rattle.reader.specs.Inside.{carryMade}
 use borrow.Author.Needs.{needs}
 use Rattle.reader.proofs.made.carry_made.Statement.{statement}
 use Rattle.reader.proofs.made.carry_made.Tie as tie

@@ -1,5 +1,5 @@
 -- `reader::made::is_no_plan` meets its contract: its tests are those of the definition. Assumes nothing.
-use Rattle.reader.specs.Made.{isNoPlan}
+use Rattle.reader.specs.Inside.{isNoPlan}
 use Rattle.reader.proofs.made.is_no_plan.Statement.{statement}
 use Rattle.reader.proofs.made.is_no_plan.Tie as tie
 

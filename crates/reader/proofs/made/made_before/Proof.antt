@@ -1,5 +1,5 @@
 -- `reader::made::made_before` meets its contract: its tests are those of the definition. Assumes nothing.
-use Rattle.reader.specs.Made.{madeBefore}
+use Rattle.reader.specs.Inside.{madeBefore}
 use borrow.Author.Needs.{needs}
 use Rattle.reader.proofs.made.made_before.Statement.{statement}
 use Rattle.reader.proofs.made.made_before.Tie as tie

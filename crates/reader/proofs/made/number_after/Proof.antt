@@ -1,5 +1,5 @@
 -- `reader::made::number_after` meets its contract: its tests are those of the definition. Assumes nothing.
-use Rattle.reader.specs.Made.{numberAfter}
+use Rattle.reader.specs.Inside.{numberAfter}
 use Rattle.reader.proofs.made.number_after.Statement.{statement}
 use Rattle.reader.proofs.made.number_after.Tie as tie
 

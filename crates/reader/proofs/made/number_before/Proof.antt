@@ -1,5 +1,5 @@
 -- `reader::made::number_before` meets its contract: its tests are those of the definition. Assumes nothing.
-use Rattle.reader.specs.Made.{numberBefore}
+use Rattle.reader.specs.Inside.{numberBefore}
 use Rattle.reader.proofs.made.number_before.Statement.{statement}
 use Rattle.reader.proofs.made.number_before.Tie as tie
 

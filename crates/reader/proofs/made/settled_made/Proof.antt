@@ -1,6 +1,6 @@
 -- `reader::made::settled_made` meets its contract: its tests are those of the definition. Assumes nothing.
 use mathlib.Core.Path.{refl}
-use Rattle.reader.specs.Made.{settledMade}
+use Rattle.reader.specs.Inside.{settledMade}
 use borrow.Author.Needs.{needs}
 use Rattle.reader.proofs.made.settled_made.Statement.{statement}
 use Rattle.reader.proofs.made.settled_made.Tie as tie
