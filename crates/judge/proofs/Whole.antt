@@ -23,7 +23,7 @@ use Rattle.printed.specs.Printed.{printedText}
 use Rattle.printed.proofs.Texts.{refused-text}
 use Rattle.input.specs.Input.{HasRead}
 use Rattle.judge.specs.Inside.{HasPlaces}
-use Rattle.judge.specs.Judged.{JudgedAsOne}
+use Rattle.judge.specs.Judged.{placesLent, JudgedAsOne}
 use Rattle.reader.proofs.EachLane.{each-same}
 use Rattle.input.proofs.Blocks.{flat-bytes}
 
@@ -51,9 +51,13 @@ text-whole before rooms blocks = go (eqb (read .refusal) 0) refl
     go true e = ap (λ (lanes : Lanes). printedText read lanes rooms) (each-same (λ A value. laneAll value room started blocks) (λ A value. laneAfter value room (flatten blocks)) before (λ A value lane fits. blocks-lane room blocks value lane fits (eqb-true (read .refusal) 0 e)))
     go false e = let bad = eqb-false (read .refusal) 0 e in refused-text read fed bad rooms ∙ sym (refused-text read whole bad rooms)
 
--- lanes with a place for each second of the longest trip
-room-long : (lanes : Lanes) (rooms : Rooms) → HasPlaces lanes rooms → roomIn lanes ≡ tripLimit
-room-long lanes rooms places = rw (places .in-states, places .in-speeds, places .in-altitudes, places .in-co2, places .in-nox) refl
+-- the longest trip has a place for each of its seconds
+pub longest-trip-fits : tripLimit ≤ placesLent
+longest-trip-fits = omega arith
+
+-- the shortest of the lanes that are lent
+places-lent : (lanes : Lanes) (rooms : Rooms) → HasPlaces lanes rooms → roomIn lanes ≡ placesLent
+places-lent lanes rooms places = rw (places .in-states, places .in-speeds, places .in-altitudes, places .in-co2, places .in-nox) refl
 
 pub judged-as-one : (before : Lanes) (r : Reader) (after : Lanes) (rooms : Rooms) (read : ReadAnswer) (text₀ text : List ℕ) → HasPlaces before rooms → HasRead before r after → read ≡ endOf r → text ≡ withFront (printedText read after rooms) text₀ → JudgedAsOne before rooms text₀ text
 judged-as-one before r after rooms read text₀ text places has is written =
@@ -68,5 +72,5 @@ judged-as-one before r after rooms read text₀ text places has is written =
           ∙ ap (λ (a : ReadAnswer). withFront (printedText a after rooms) text₀) answer
           ∙ ap (λ (lanes : Lanes). withFront (printedText (readOf room stream) lanes rooms) text₀) (has .lanes)
           ∙ ap (λ (t : List ℕ). withFront t text₀) (text-whole before rooms (has .blocks))
-          ∙ ap (λ (n : ℕ). withFront (printedText (readOf n stream) (eachLane (λ A value. laneAfter value n stream) before) rooms) text₀) (room-long before rooms places);
+          ∙ ap (λ (n : ℕ). withFront (printedText (readOf n stream) (eachLane (λ A value. laneAfter value n stream) before) rooms) text₀) (places-lent before rooms places);
     }

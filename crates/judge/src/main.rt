@@ -4,7 +4,6 @@
 // contracts here say what is made of the bytes that came, up to the text in the buffer that is
 // written out.
 
-use base::limits;
 use stream::ReadAnswer;
 ghost use mathlib.Core.Path.{_≡_};
 ghost use mathlib.Core.Bool.{true, false};
@@ -18,19 +17,22 @@ ghost use Rattle.input.specs.Input.{blockMost};
 ghost use Rattle.judge.specs.Inside.{HasPlaces};
 ghost use Rattle.judge.specs.Judged.{JudgedAsOne};
 
-// Lends what is filled: a block, nine lanes with a place for each second of the longest trip, and a
-// buffer for the longest text. Says on standard error where the input could not be read.
+// The places of each lane that the program lends, a second in each. No lane passes 64 KiB.
+const PLACES: usize = 8_192;
+
+// Lends what is filled: a block, nine lanes, and a buffer for the longest text. Says on standard error
+// where the input could not be read.
 fn main() {
     let mut block = [0u8; input::BLOCK];
-    let mut states = [0u8; limits::TRIP];
-    let mut speeds = [0u16; limits::TRIP];
-    let mut altitudes = [0i32; limits::TRIP];
-    let mut co2 = [0u32; limits::TRIP];
-    let mut nox = [0u32; limits::TRIP];
-    let mut kept_speeds = [0u16; limits::TRIP];
-    let mut kept_co2 = [0u32; limits::TRIP];
-    let mut ends = [0u16; limits::TRIP];
-    let mut ranks = [0u32; limits::TRIP];
+    let mut states = [0u8; PLACES];
+    let mut speeds = [0u16; PLACES];
+    let mut altitudes = [0i32; PLACES];
+    let mut co2 = [0u32; PLACES];
+    let mut nox = [0u32; PLACES];
+    let mut kept_speeds = [0u16; PLACES];
+    let mut kept_co2 = [0u32; PLACES];
+    let mut ends = [0u16; PLACES];
+    let mut ranks = [0u32; PLACES];
     let mut text = [0u8; report::LONGEST_TEXT];
     let could_read = judge_input(
         &mut block,

@@ -6,11 +6,26 @@ use Rattle.judge.proofs.Whole.{judged-as-one}
 use Rattle.judge.proofs.judge_input.Statement.{statement}
 use Rattle.judge.proofs.judge_input.Tie as tie
 
+-- ---- places of the code, seen from later ones: only these lines count what stands between
+-- the call's beginning and the reading, from where the lanes are handed on
+abbrev began : tie.After-read-input-arg6 → tie.Start
+began c = c .before .before .before .before .before .before .before .before .before .before .before .before .before .before .before .before
+
+abbrev read : tie.After-reader → tie.After-read-input
+read c = c .before .before .before .before .before .before .before .before .before .before .before .before
+
+-- the end of the stream, from where the lanes are handed on; what was printed, from the return
+abbrev ended : tie.After-print-answer-arg10 → tie.After-end
+ended c = c .before .before .before .before .before .before .before .before .before .before
+
+abbrev printed : tie.After-slice-known20 → tie.After-print-answer
+printed c = c .before .before .before .before .before .before .before .before .before .before
+
 read-input-requires : tie.Need-read-input-requires
-read-input-requires c κs = c .before .before .before .before .before .before .before .before .before .before .before .before .before .before .before .before .pre .0
+read-input-requires c κs = began c .pre .0
 
 same-length : tie.Need-same-length
-same-length c = c .before .before .before .before .before .before .before .before .before .before .before .before .before .read-input .kept .0
+same-length c = read (c .before) .read-input .kept .0
 
 same-length-2 : tie.Need-same-length-2
 same-length-2 c = search needs
@@ -34,10 +49,10 @@ end-requires : tie.Need-end-requires
 end-requires c κs = search needs
 
 print-answer-requires : tie.Need-print-answer-requires
-print-answer-requires c κs = c .before .before .before .before .before .before .before .before .before .before .before .before .before .before .before .before .before .before .before .before .before .before .before .before .before .before .before .before .before .before .before .before .before .before .before .before .before .before .before .before .before .pre .1 .1
+print-answer-requires c κs = began (read (ended c .before .before) .before) .pre .1 .1
 
 same-length-7 : tie.Need-same-length-7
-same-length-7 c = c .before .before .before .before .before .before .before .before .before .before .before .before .before .before .before .before .before .before .before .before .before .before .before .before .before .before .before .before .before .before .before .before .before .before .before .read-input .kept .0
+same-length-7 c = read (ended (printed c .before) .before .before) .read-input .kept .0
 
 same-length-8 : tie.Need-same-length-8
 same-length-8 c = search needs
@@ -71,8 +86,9 @@ same-length-17 c = search needs
 
 returns-2 : tie.Need-returns-2
 returns-2 c =
-    let read = c .before .before .before .before .before .before .before .before .before .before .before .before .before .before .before .before .before .before .before .before .before .before .before .before .before .before .before .before .before .before .before .before .before .before .before .read-input in
-    (λ judged. judged-as-one _ (read .result .reader) _ _ (c .before .before .before .before .before .before .before .before .before .before .before .before .before .before .before .before .before .before .before .before .before .end .result) _ _ (c .before .before .before .before .before .before .before .before .before .before .before .before .before .before .before .before .before .before .before .before .before .before .before .before .before .before .before .before .before .before .before .before .before .before .before .before .before .before .before .before .before .before .before .before .before .before .before .before .before .before .before .before .pre .1 .0) (read .ensures .0) (c .before .before .before .before .before .before .before .before .before .before .before .before .before .before .before .before .before .before .before .before .before .end .ensures) (c .before .before .before .before .before .before .before .before .before .before .print-answer .ensures .0), λ (failed : true ≡ false). absurd (true≢false failed))
+    let answer = ended (printed c .before) in
+    let here = read (answer .before .before) in
+    (λ judged. judged-as-one _ (here .read-input .result .reader) _ _ (answer .end .result) _ _ (began (here .before) .pre .1 .0) (here .read-input .ensures .0) (answer .end .ensures) (printed c .print-answer .ensures .0), λ (failed : true ≡ false). absurd (true≢false failed))
 
 pub judge-input-spec : {M : Type 1} → statement M
 judge-input-spec =

@@ -9,6 +9,13 @@ use borrow.Author.Needs.{needs}
 use Rattle.judge.proofs.print_answer.Statement.{statement}
 use Rattle.judge.proofs.print_answer.Tie as tie
 
+-- ---- places of the code, seen from later ones: only these lines count what stands between
+abbrev began : tie.After-write-text → tie.Start
+began c = c .before .before .before .before .before .before .before .before .before .before .before .before .before .before .before
+
+abbrev wrote : tie.After-slice-known10 → tie.After-write-text
+wrote c = c .before .before .before .before .before .before .before .before .before .before
+
 -- the text lies within its buffer
 inside : (c : tie.After-write-text) → c .write-text .result ≤ length (c .write-text .last .1 .1 .1 .1 .1 .1 .1 .1 .1 .1 .0)
 inside c = rw (c .write-text .ensures .0, c .write-text .ensures .1) (written-inside _ _)
@@ -17,10 +24,10 @@ write-text-requires : tie.Need-write-text-requires
 write-text-requires c κs = search needs
 
 slice-reshare-prefix-write-all : tie.Need-slice-reshare-prefix-write-all
-slice-reshare-prefix-write-all c = inside (c .before .before .before .before .before .before .before .before .before .before)
+slice-reshare-prefix-write-all c = inside (wrote c)
 
 slice-aggregate-write-all : tie.Need-slice-aggregate-write-all
-slice-aggregate-write-all c = sym (length-take-le _ _ (inside (c .before .before .before .before .before .before .before .before .before .before .before)))
+slice-aggregate-write-all c = sym (length-take-le _ _ (inside (wrote (c .before))))
 
 write-all-requires : tie.Need-write-all-requires
 write-all-requires c κs = search needs
@@ -48,8 +55,9 @@ same-length-5 c = search needs
 
 returns : tie.Need-returns
 returns c =
-    let written = c .before .before .before .before .before .before .before .before .before .before .before .before .before .before .before .write-text .ensures in
-    (at-front _ _ _ (written .1) (written .2) (c .before .before .before .before .before .before .before .before .before .before .before .before .before .before .before .before .before .before .before .before .before .before .before .before .before .before .before .before .before .before .pre), written .3)
+    let here = wrote (c .before .before .before .before .before) in
+    let written = here .write-text .ensures in
+    (at-front _ _ _ (written .1) (written .2) (began here .pre), written .3)
 
 same-length-6 : tie.Need-same-length-6
 same-length-6 c = search needs
@@ -68,8 +76,9 @@ same-length-10 c = search needs
 
 returns-2 : tie.Need-returns-2
 returns-2 c =
-    let written = c .before .before .before .before .before .before .before .before .before .before .before .before .before .write-text .ensures in
-    (at-front _ _ _ (written .1) (written .2) (c .before .before .before .before .before .before .before .before .before .before .before .before .before .before .before .before .before .before .before .before .before .before .before .before .before .before .before .before .pre), written .3)
+    let here = wrote (c .before .before .before) in
+    let written = here .write-text .ensures in
+    (at-front _ _ _ (written .1) (written .2) (began here .pre), written .3)
 
 pub print-answer-spec : {M : Type 1} → statement M
 print-answer-spec =
