@@ -27,7 +27,9 @@ module _ (room : ℕ) (blocks : List (List ℕ)) where
   same-answer = whole.blocks-end room blocks
 
   -- and the lanes of a readable stream are those of the whole-stream call
-  pub same-lane {ℓ} : {A : Type ℓ} (value : Row → A) (lane : List A) → room ≤ length lane → readOf room (flatten blocks) .refusal ≡ 0 → laneAll value room started blocks lane ≡ laneAfter value room (flatten blocks) lane
+  pub same-lane {ℓ} :
+      {A : Type ℓ} (value : Row → A) (lane : List A) → room ≤ length lane → readOf room (flatten blocks) .refusal ≡ 0 →
+      laneAll value room started blocks lane ≡ laneAfter value room (flatten blocks) lane
   same-lane value lane = whole.blocks-lane room blocks value lane
 
 -- feeding a and then b is feeding both as one: the reader and the lanes

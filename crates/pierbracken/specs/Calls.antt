@@ -50,12 +50,27 @@ use Rattle.printed.proofs.write_text.Reads as write-text-call
 -- `.1 .0` the second, `.1 .1 .0` the third; `.now` is what a lane holds. `κs` stands for how long each lane is lent.
 
 -- a call that asks nothing of its inputs, of which every allowed result is `answer` and every lane that it leaves is `left`
-pub record Answers (Left : Type 0) {L : Type 0} {In Out Exit : L → Type 0} (asks : (κs : L) → In κs → Type 0) (allows : (κs : L) → In κs → Out κs → Exit κs → Type 0) (answer : (κs : L) → In κs → Out κs) (at-exit : (κs : L) → Exit κs → Left) (left : (κs : L) → In κs → Left) : Type 0 where
+pub record Answers
+    (Left : Type 0) {L : Type 0} {In Out Exit : L → Type 0}
+    (asks : (κs : L) → In κs → Type 0)
+    (allows : (κs : L) → In κs → Out κs → Exit κs → Type 0)
+    (answer : (κs : L) → In κs → Out κs)
+    (at-exit : (κs : L) → Exit κs → Left)
+    (left : (κs : L) → In κs → Left) : Type 0 where
   pub takes-all : (κs : L) (inputs : In κs) → asks κs inputs
   pub means : (κs : L) (inputs : In κs) (x : Out κs) (e : Exit κs) → allows κs inputs x e → (x ≡ answer κs inputs) × (at-exit κs e ≡ left κs inputs)
 
 -- so any two results that it allows for the same inputs coincide, with every lent lane
-pub determined : {Left L : Type 0} {In Out Exit : L → Type 0} {asks : (κs : L) → In κs → Type 0} {allows : (κs : L) → In κs → Out κs → Exit κs → Type 0} {answer : (κs : L) → In κs → Out κs} {at-exit : (κs : L) → Exit κs → Left} {left : (κs : L) → In κs → Left} → Answers Left asks allows answer at-exit left → (κs : L) (inputs : In κs) (x y : Out κs) (e f : Exit κs) → allows κs inputs x e → allows κs inputs y f → (x ≡ y) × (at-exit κs e ≡ at-exit κs f)
+pub determined :
+    {Left L : Type 0} {In Out Exit : L → Type 0}
+    {asks : (κs : L) → In κs → Type 0}
+    {allows : (κs : L) → In κs → Out κs → Exit κs → Type 0}
+    {answer : (κs : L) → In κs → Out κs}
+    {at-exit : (κs : L) → Exit κs → Left}
+    {left : (κs : L) → In κs → Left} →
+    Answers Left asks allows answer at-exit left →
+    (κs : L) (inputs : In κs) (x y : Out κs) (e f : Exit κs) →
+    allows κs inputs x e → allows κs inputs y f → (x ≡ y) × (at-exit κs e ≡ at-exit κs f)
 determined call κs inputs x y e f p q =
     let one = call .means κs inputs x e p in
     let other = call .means κs inputs y f q in

@@ -126,11 +126,24 @@ whole-trip plan lanes rooms = through (trip.answer-fault plan lanes rooms) (trip
 
 -- ---- the calls
 -- every result that a contract allows, seen by `look`, is y exactly when `outcome` holds of y
-pub record RefusedAs {Y L : Type 0} {In Out Exit : L → Type 0} (allows : (κs : L) → In κs → Out κs → Exit κs → Type 0) (look : (κs : L) → Out κs → Y) (outcome : (κs : L) → In κs → Y → Type 0) : Type 0 where
+pub record RefusedAs
+    {Y L : Type 0} {In Out Exit : L → Type 0}
+    (allows : (κs : L) → In κs → Out κs → Exit κs → Type 0)
+    (look : (κs : L) → Out κs → Y)
+    (outcome : (κs : L) → In κs → Y → Type 0) : Type 0 where
   pub exactly : (κs : L) (inputs : In κs) (x : Out κs) (e : Exit κs) → allows κs inputs x e → (y : Y) → (look κs x ≡ y) ↔ outcome κs inputs y
 
 -- a law of the definition holds of the call
-of-call : {Y Left L : Type 0} {In Out Exit : L → Type 0} {asks : (κs : L) → In κs → Type 0} {allows : (κs : L) → In κs → Out κs → Exit κs → Type 0} {answer : (κs : L) → In κs → Out κs} {at-exit : (κs : L) → Exit κs → Left} {left : (κs : L) → In κs → Left} → Answers Left asks allows answer at-exit left → {look : (κs : L) → Out κs → Y} {outcome : (κs : L) → In κs → Y → Type 0} → ((κs : L) (inputs : In κs) (y : Y) → (look κs (answer κs inputs) ≡ y) ↔ outcome κs inputs y) → RefusedAs allows look outcome
+of-call :
+    {Y Left L : Type 0} {In Out Exit : L → Type 0}
+    {asks : (κs : L) → In κs → Type 0}
+    {allows : (κs : L) → In κs → Out κs → Exit κs → Type 0}
+    {answer : (κs : L) → In κs → Out κs}
+    {at-exit : (κs : L) → Exit κs → Left}
+    {left : (κs : L) → In κs → Left} →
+    Answers Left asks allows answer at-exit left →
+    {look : (κs : L) → Out κs → Y} {outcome : (κs : L) → In κs → Y → Type 0} →
+    ((κs : L) (inputs : In κs) (y : Y) → (look κs (answer κs inputs) ≡ y) ↔ outcome κs inputs y) → RefusedAs allows look outcome
 of-call call {look = look} law =
     record { exactly = λ κs inputs x e p. through (λ i. look κs (call .means κs inputs x e p .0 i)) (law κs inputs) }
 
@@ -223,21 +236,32 @@ write-text-refused κs a x e p = rw (p .0) (fitting.zero-exactly _ _ (printed.te
 pub no-length : (front : Front) → (refusalOf front ≡ 0 → ⊥) → lengthOf front ≡ 0
 no-length = item.refused-no-length
 
-pub sweep-zeros : (reference : ℕ) (co2 : List ℕ) (room : ℕ) (state : SweepState) (budget : ℕ) → (sweepAnswer reference co2 room state budget .refusal ≡ 0 → ⊥) → sweepAnswer reference co2 room state budget ≡ refusedAnswer co2 (sweepAnswer reference co2 room state budget .refusal)
+pub sweep-zeros :
+    (reference : ℕ) (co2 : List ℕ) (room : ℕ) (state : SweepState) (budget : ℕ) →
+    (sweepAnswer reference co2 room state budget .refusal ≡ 0 → ⊥) →
+    sweepAnswer reference co2 room state budget ≡ refusedAnswer co2 (sweepAnswer reference co2 room state budget .refusal)
 sweep-zeros = sweep.refused-zeros
 
-pub trip-zeros : (plan : Plan) (lanes : Lanes) (rooms : Rooms) → (answerOf plan lanes rooms .refusal ≡ 0 → ⊥) → answerOf plan lanes rooms ≡ refused (fault (answerOf plan lanes rooms .refusal) (answerOf plan lanes rooms .place))
+pub trip-zeros :
+    (plan : Plan) (lanes : Lanes) (rooms : Rooms) → (answerOf plan lanes rooms .refusal ≡ 0 → ⊥) →
+    answerOf plan lanes rooms ≡ refused (fault (answerOf plan lanes rooms .refusal) (answerOf plan lanes rooms .place))
 trip-zeros = trips.refused-zeros
 
 -- of the structs that cross to C
-pub pb-mass-zeros : (answer : Weighed) → (concentration.answerOf answer .refusal ≡ 0 → ⊥) → concentration.answerOf answer ≡ record { refusal = concentration.answerOf answer .refusal; mass = 0; place = 0 }
+pub pb-mass-zeros :
+    (answer : Weighed) → (concentration.answerOf answer .refusal ≡ 0 → ⊥) →
+    concentration.answerOf answer ≡ record { refusal = concentration.answerOf answer .refusal; mass = 0; place = 0 }
 pb-mass-zeros = crossing.mass-zeros
 
 pub pb-item-zeros : (byte : ℕ) (front : Front) → (refusalOf front ≡ 0 → ⊥) → frontAcross byte front ≡ itemAnswer (refusalOf front) 0 noContents 0 0
 pb-item-zeros = crossing.item-zeros
 
-pub pb-acceleration-zeros : (answer : Acceleration) → (d.faultIn answer .number ≡ 0 → ⊥) → accelerationAcross answer ≡ record { refusal = d.faultIn answer .number; «has_d» = false; rise = 0; fall = 0; place = d.faultIn answer .place }
+pub pb-acceleration-zeros :
+    (answer : Acceleration) → (d.faultIn answer .number ≡ 0 → ⊥) →
+    accelerationAcross answer ≡ record { refusal = d.faultIn answer .number; «has_d» = false; rise = 0; fall = 0; place = d.faultIn answer .place }
 pb-acceleration-zeros = crossing.acceleration-zeros
 
-pub pb-percentile-zeros : (answer : Answer) → (percentiles.faultIn answer .number ≡ 0 → ⊥) → percentileAcross answer ≡ record { refusal = percentiles.faultIn answer .number; q = 0; place = percentiles.faultIn answer .place }
+pub pb-percentile-zeros :
+    (answer : Answer) → (percentiles.faultIn answer .number ≡ 0 → ⊥) →
+    percentileAcross answer ≡ record { refusal = percentiles.faultIn answer .number; q = 0; place = percentiles.faultIn answer .place }
 pb-percentile-zeros = crossing.percentile-zeros

@@ -46,11 +46,15 @@ module _ (reference : ℕ) (co2 ends : List ℕ) where
   budget-used = sweep.spent reference co2 ends
 
   -- the moves of a call are the change of the state's moves
-  pub moves-counted : (state : SweepState) → Accepted reference co2 (length ends) state → (budget : ℕ) → sweepAnswer reference co2 (length ends) state budget .state .moves ≡ state .moves + sweepAnswer reference co2 (length ends) state budget .moves
+  pub moves-counted :
+      (state : SweepState) → Accepted reference co2 (length ends) state → (budget : ℕ) →
+      sweepAnswer reference co2 (length ends) state budget .state .moves ≡ state .moves + sweepAnswer reference co2 (length ends) state budget .moves
   moves-counted state accepted budget = rw (sweep.run-answered reference co2 ends state accepted budget) (reached.moves-counted reference co2 budget state)
 
   -- with a budget of kept plus windows moves from the beginning: it is over, has made kept plus windows moves, and the lane holds the end of every window
-  pub run-to-its-end : (budget : ℕ) → Accepted reference co2 (length ends) beginning → length co2 + windows reference co2 ≤ budget → Whole reference co2 ends (sweepEnds reference co2 ends beginning budget) (sweepAnswer reference co2 (length ends) beginning budget)
+  pub run-to-its-end :
+      (budget : ℕ) → Accepted reference co2 (length ends) beginning → length co2 + windows reference co2 ≤ budget →
+      Whole reference co2 ends (sweepEnds reference co2 ends beginning budget) (sweepAnswer reference co2 (length ends) beginning budget)
   run-to-its-end = sweep.whole reference co2 ends
 
 -- ---- resumed
