@@ -11,17 +11,21 @@ use Rattle.acceleration.specs.D.{faultOf}
 use Rattle.acceleration.proofs.fault_of.Statement.{statement}
 use Rattle.acceleration.proofs.fault_of.Tie as tie
 
-abbrev trip : tie.Start → Lanes
-trip c = lanesOf (c .args .states .now) (c .args .speeds .now) (c .args .altitudes .now) (c .args .co2 .now) (c .args .nox .now)
+-- where the call began, and the lanes
+abbrev began : tie.After-lanes-agree → tie.Start
+began c = c .before .before .before .before .before
+
+abbrev trip : tie.After-lanes-agree → Lanes
+trip c = let a = began c .args in lanesOf (a .states .now) (a .speeds .now) (a .altitudes .now) (a .co2 .now) (a .nox .now)
 
 -- what passed each test
-agrees : (c : tie.Else1) → lanesAgree (trip (c .before .before .before .before .before .before)) ≡ true
+agrees : (c : tie.Else1) → lanesAgree (trip (c .before)) ≡ true
 agrees c = sym (c .before .lanes-agree .ensures) ∙ not-false (c .before .lanes-agree .result) (c .if1 .left)
 
-few : (c : tie.Else2) → tooMany (secondsIn (trip (c .before .before .before .before .before .before .before .before))) ≡ false
+few : (c : tie.Else2) → tooMany (secondsIn (trip (c .before .before .before))) ≡ false
 few c = sym (c .before .too-many .ensures) ∙ c .if2 .left
 
-all-good : (c : tie.Else3) → ltb (firstBadSecond (trip (c .before .before .before .before .before .before .before .before .before .before))) (secondsIn (trip (c .before .before .before .before .before .before .before .before .before .before))) ≡ false
+all-good : (c : tie.Else3) → let t = trip (c .before .before .before .before .before) in ltb (firstBadSecond t) (secondsIn t) ≡ false
 all-good c = rw (sym (c .before .first-bad .ensures)) (le-ltb _ _ (c .if3 .left))
 
 lanes-agree-requires : tie.Need-lanes-agree-requires
