@@ -14,23 +14,27 @@ use borrow.Author.Needs.{needs}
 use Rattle.trip.proofs.refusals.fault_of.Statement.{statement}
 use Rattle.trip.proofs.refusals.fault_of.Tie as tie
 
-abbrev trip : tie.Start → Lanes
-trip c = lanesOf (c .args .states .now) (c .args .speeds .now) (c .args .altitudes .now) (c .args .co2 .now) (c .args .nox .now)
+-- where the call began, and the lanes
+abbrev began : tie.After-plan-in-range → tie.Start
+began c = c .before .before .before .before .before
+
+abbrev trip : tie.After-plan-in-range → Lanes
+trip c = let a = began c .args in lanesOf (a .states .now) (a .speeds .now) (a .altitudes .now) (a .co2 .now) (a .nox .now)
 
 -- what passed each test
-ranged : (c : tie.Else1) → planInRange (c .before .before .before .before .before .before .args .plan) ≡ true
+ranged : (c : tie.Else1) → planInRange (began (c .before) .args .plan) ≡ true
 ranged c = sym (c .before .plan-in-range .ensures) ∙ not-false _ (c .if1 .left)
 
-agrees : (c : tie.Else2) → lanesAgree (trip (c .before .before .before .before .before .before .before .before)) ≡ true
+agrees : (c : tie.Else2) → lanesAgree (trip (c .before .before .before)) ≡ true
 agrees c = sym (c .before .lanes-agree .ensures) ∙ not-false _ (c .if2 .left)
 
-few : (c : tie.Else3) → tooMany (secondsIn (trip (c .before .before .before .before .before .before .before .before .before .before))) ≡ false
+few : (c : tie.Else3) → tooMany (secondsIn (trip (c .before .before .before .before .before))) ≡ false
 few c = sym (c .before .too-many .ensures) ∙ c .if3 .left
 
-roomy : (c : tie.Else4) → tooShort (c .before .before .before .before .before .before .before .before .before .before .before .before .args .rooms) (secondsIn (trip (c .before .before .before .before .before .before .before .before .before .before .before .before))) ≡ false
+roomy : (c : tie.Else4) → let first = c .before .before .before .before .before .before .before in tooShort (began first .args .rooms) (secondsIn (trip first)) ≡ false
 roomy c = sym (c .before .too-short .ensures) ∙ c .if4 .left
 
-all-good : (c : tie.Else5) → ltb (firstBadSecond (trip (c .before .before .before .before .before .before .before .before .before .before .before .before .before .before))) (secondsIn (trip (c .before .before .before .before .before .before .before .before .before .before .before .before .before .before))) ≡ false
+all-good : (c : tie.Else5) → let t = trip (c .before .before .before .before .before .before .before .before .before) in ltb (firstBadSecond t) (secondsIn t) ≡ false
 all-good c = rw (sym (c .before .first-bad .ensures)) (le-ltb _ _ (c .if5 .left))
 
 plan-in-range-requires : tie.Need-plan-in-range-requires
