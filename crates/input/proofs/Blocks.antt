@@ -19,6 +19,7 @@ use Rattle.reader.proofs.EachLane.{each-same, each-long}
 use Rattle.reader.proofs.Making.{start-made, start-places, feeding-places, fed-nothing}
 use Rattle.reader.proofs.Whole.{fed-made, lane-made, fed-all, lane-all}
 use Rattle.second.specs.Lanes.{Lanes, roomIn, eachLane}
+use Rattle.second.proofs.EachLane.{EachLane, same-room}
 use Rattle.input.specs.Inside.{HasFed}
 use Rattle.input.specs.Input.{blockMost, Block, HasRead}
 
@@ -85,16 +86,17 @@ unfolding laneAll laneWith
 lane-long room A value [] r lane = refl
 lane-long room A value (block ∷ blocks) r lane = lane-long room A value blocks (readerAfter room r block) (laneWith value room r block lane) ∙ length-sets lane (r .seconds) (map value (secondsAdded room r block))
 
--- the lanes keep their room
-pub room-kept : (before : Lanes) (r : Reader) (after : Lanes) → HasRead before r after → roomIn after ≡ roomIn before
-room-kept before r after read = ap roomIn (read .lanes) ∙ each-long (λ A value. laneAll value (roomIn before) started (read .blocks)) before (λ A value lane. lane-long (roomIn before) A value (read .blocks) started lane)
+-- the lanes keep their lengths
+pub read-long : (before : Lanes) (r : Reader) (after : Lanes) → HasRead before r after → EachLane (λ A value a b. length b ≡ length a) before after
+read-long before r after read =
+    rw (read .lanes) (each-long (λ A value. laneAll value (roomIn before) started (read .blocks)) before (λ A value lane. lane-long (roomIn before) A value (read .blocks) started lane))
 
 -- after one more
 pub has-read-more : (before : Lanes) (r : Reader) (between : Lanes) (came : List ℕ) (next : Reader) (after : Lanes) → HasRead before r between → HasFed between r came next after → HasRead before next after
 has-read-more before r between came next after read fed =
     let room = roomIn before in
     let blocks = read .blocks in
-    let same = room-kept before r between read in
+    let same = same-room (read-long before r between read) in
     record {
       blocks = blocks ++ came ∷ [];
       each = each-more Block no-block came (fed .block) blocks (read .each);

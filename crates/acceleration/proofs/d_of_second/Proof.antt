@@ -11,13 +11,17 @@ use Rattle.acceleration.specs.D.{faultOf, accelerationOf}
 use Rattle.acceleration.proofs.d_of_second.Statement.{statement}
 use Rattle.acceleration.proofs.d_of_second.Tie as tie
 
-abbrev trip : tie.Start → Lanes
-trip c = lanesOf (c .args .states .now) (c .args .speeds .now) (c .args .altitudes .now) (c .args .co2 .now) (c .args .nox .now)
+-- where the call began, and the lanes
+abbrev began : tie.After-fault-of → tie.Start
+began c = c .before .before .before .before .before
 
-number : (c : tie.Else1) → faultOf (trip (c .before .before .before .before .before .before)) (c .before .before .before .before .before .before .args .i) .number ≡ 0
+abbrev trip : tie.After-fault-of → Lanes
+trip c = let a = began c .args in lanesOf (a .states .now) (a .speeds .now) (a .altitudes .now) (a .co2 .now) (a .nox .now)
+
+number : (c : tie.Else1) → faultOf (trip (c .before)) (began (c .before) .args .i) .number ≡ 0
 number c = sym (ap (λ f. f .number) (c .before .fault-of .ensures)) ∙ c .if1 .left
 
-known : (c : tie.Else1) → Accepted (trip (c .before .before .before .before .before .before)) (c .before .before .before .before .before .before .args .i)
+known : (c : tie.Else1) → Accepted (trip (c .before)) (began (c .before) .args .i)
 known c = accepted-facts _ _ (number c)
 
 fault-of-requires : tie.Need-fault-of-requires
@@ -33,7 +37,8 @@ has-d-requires c κs = known c .inside
 d-of-requires : tie.Need-d-of-requires
 d-of-requires c κs =
     let k = known (c .before .before) in
-    let inside : c .before .before .before .before .before .before .before .before .args .i < length (c .before .before .before .before .before .before .before .before .args .speeds .now) = rw (k .lengths .speeds) (k .inside) in
+    let a = began (c .before .before .before) .args in
+    let inside : a .i < length (a .speeds .now) = rw (k .lengths .speeds) (k .inside) in
     inside
 
 returns-2 : tie.Need-returns-2

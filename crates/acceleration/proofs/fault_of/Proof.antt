@@ -11,17 +11,31 @@ use Rattle.acceleration.specs.D.{faultOf}
 use Rattle.acceleration.proofs.fault_of.Statement.{statement}
 use Rattle.acceleration.proofs.fault_of.Tie as tie
 
-abbrev trip : tie.Start → Lanes
-trip c = lanesOf (c .args .states .now) (c .args .speeds .now) (c .args .altitudes .now) (c .args .co2 .now) (c .args .nox .now)
+-- ---- places of the code, seen from later ones: only these lines count what stands between
+-- where the call began
+abbrev began : tie.Else1 → tie.Start
+began c = c .before .before .before .before .before .before
+
+-- where a test was passed, from where the next one was
+abbrev first : tie.Else2 → tie.Else1
+first c = c .before .before
+
+abbrev second : tie.Else3 → tie.Else2
+second c = c .before .before
+
+-- ---- what they know
+-- the lanes
+abbrev trip : tie.Else1 → Lanes
+trip c = let a = began c .args in lanesOf (a .states .now) (a .speeds .now) (a .altitudes .now) (a .co2 .now) (a .nox .now)
 
 -- what passed each test
-agrees : (c : tie.Else1) → lanesAgree (trip (c .before .before .before .before .before .before)) ≡ true
+agrees : (c : tie.Else1) → lanesAgree (trip c) ≡ true
 agrees c = sym (c .before .lanes-agree .ensures) ∙ not-false (c .before .lanes-agree .result) (c .if1 .left)
 
-few : (c : tie.Else2) → tooMany (secondsIn (trip (c .before .before .before .before .before .before .before .before))) ≡ false
+few : (c : tie.Else2) → tooMany (secondsIn (trip (first c))) ≡ false
 few c = sym (c .before .too-many .ensures) ∙ c .if2 .left
 
-all-good : (c : tie.Else3) → ltb (firstBadSecond (trip (c .before .before .before .before .before .before .before .before .before .before))) (secondsIn (trip (c .before .before .before .before .before .before .before .before .before .before))) ≡ false
+all-good : (c : tie.Else3) → let t = trip (first (second c)) in ltb (firstBadSecond t) (secondsIn t) ≡ false
 all-good c = rw (sym (c .before .first-bad .ensures)) (le-ltb _ _ (c .if3 .left))
 
 lanes-agree-requires : tie.Need-lanes-agree-requires
@@ -45,14 +59,14 @@ unfolding faultOf
 returns-2 c = c .fault-at2 .ensures ∙ rw (agrees (c .before .before .before), sym (c .before .before .too-many .ensures) ∙ c .before .if2 .taken) refl
 
 first-bad-requires : tie.Need-first-bad-requires
-first-bad-requires c κs = agree _ (agrees (c .before .before))
+first-bad-requires c κs = agree _ (agrees (first c))
 
 fault-at-requires-3 : tie.Need-fault-at-requires-3
 fault-at-requires-3 c κs = search needs
 
 returns-3 : tie.Need-returns-3
 unfolding faultOf
-returns-3 c = c .fault-at3 .ensures ∙ rw (agrees (c .before .before .before .before .before), few (c .before .before .before), sym (c .before .before .first-bad .ensures), lt-ltb _ _ (c .before .if3 .taken)) refl
+returns-3 c = c .fault-at3 .ensures ∙ rw (agrees (first (c .before .before .before)), few (c .before .before .before), sym (c .before .before .first-bad .ensures), lt-ltb _ _ (c .before .if3 .taken)) refl
 
 none-has-values-requires : tie.Need-none-has-values-requires
 none-has-values-requires c κs = search needs
@@ -62,14 +76,18 @@ fault-at-requires-4 c κs = search needs
 
 returns-4 : tie.Need-returns-4
 unfolding faultOf
-returns-4 c = c .fault-at4 .ensures ∙ rw (agrees (c .before .before .before .before .before .before .before), few (c .before .before .before .before .before), all-good (c .before .before .before), sym (c .before .before .none-has-values .ensures), c .before .if4 .taken) refl
+returns-4 c =
+    let three = c .before .before .before in
+    c .fault-at4 .ensures ∙ rw (agrees (first (second three)), few (second three), all-good three, sym (c .before .before .none-has-values .ensures), c .before .if4 .taken) refl
 
 fault-at-requires-5 : tie.Need-fault-at-requires-5
 fault-at-requires-5 c κs = search needs
 
 returns-5 : tie.Need-returns-5
 unfolding faultOf
-returns-5 c = c .fault-at5 .ensures ∙ rw (agrees (c .before .before .before .before .before .before .before), few (c .before .before .before .before .before), all-good (c .before .before .before), sym (c .before .before .none-has-values .ensures), c .before .if4 .left) refl
+returns-5 c =
+    let three = c .before .before .before in
+    c .fault-at5 .ensures ∙ rw (agrees (first (second three)), few (second three), all-good three, sym (c .before .before .none-has-values .ensures), c .before .if4 .left) refl
 
 pub fault-of-spec : {M : Type 1} → statement M
 fault-of-spec =

@@ -9,6 +9,16 @@ use borrow.Author.Needs.{needs}
 use Rattle.input.proofs.read_block.Statement.{statement}
 use Rattle.input.proofs.read_block.Tie as tie
 
+-- ---- places of the code, seen from later ones
+-- where the call began
+abbrev began : tie.After-count → tie.Start
+began c = c .before .before .before .before .before .before .before .before .before .before .before
+
+-- where bytes came, from where they are to be fed
+abbrev some-came : tie.After-feed-arg6 → tie.Else1
+some-came c = c .before .before .before .before .before .before
+
+-- ---- what they know
 -- the places of a reader's carry
 held-long : (c : tie.Start) → length (c .args .reader .held) ≡ 21
 held-long c = search needs
@@ -24,7 +34,7 @@ same-length c = search needs
 
 returns : tie.Need-returns
 returns c =
-    let start = c .before .before .before .before .before .before .before .before .before .before .before .before in
+    let start = began (c .before) in
     (has-fed-nothing _ (start .args .reader) (start .pre .0 .made) (held-long start ∙ sym places-are), (omega arith, refl))
 
 slice-reshare-prefix-feed : tie.Need-slice-reshare-prefix-feed
@@ -58,11 +68,11 @@ returns-2 : tie.Need-returns-2
 returns-2 c =
     let feed = c .before .before .before .before .before .before .before .before .before .before .before .feed in
     let ready = c .before .before .before .before .before .before .before .before .before .before .before .before in
-    let count = ready .before .before .before .before .before .before .before .count in
-    let start = ready .before .before .before .before .before .before .before .before .before .before .before .before .before .before .before .before .before .before in
-    let long = ready .before .before .before .before .before .before .before .before .before .before .before .read .kept .1 .0 ∙ start .pre .1 in
-    let bytes = ready .before .before .before .before .before .before .before .before .before .slice-known6 .given in
-    (has-fed _ _ (start .args .reader) _ (start .pre .0 .made) (feed .result) (block-of (count .result) _ long (λ i. omega (arith, bytes i))) (feed .ensures .0) (feed .ensures .1), (omega (arith, count .ensures .0 .0, long), goes-by-reader (count .result) (feed .result .reader .refusal) (ready .before .before .before .before .before .before .if1 .left)))
+    let counted = some-came ready .before in
+    let start = began counted in
+    let long = counted .before .before .before .before .read .kept .1 .0 ∙ start .pre .1 in
+    let bytes = counted .before .before .slice-known6 .given in
+    (has-fed _ _ (start .args .reader) _ (start .pre .0 .made) (feed .result) (block-of (counted .count .result) _ long (λ i. omega (arith, bytes i))) (feed .ensures .0) (feed .ensures .1), (omega (arith, counted .count .ensures .0 .0, long), goes-by-reader (counted .count .result) (feed .result .reader .refusal) (some-came ready .if1 .left)))
 
 pub read-block-spec : {M : Type 1} → statement M
 read-block-spec =

@@ -12,6 +12,19 @@ use Rattle.printed.proofs.Texts.{refused-text, refused-lent, read-text,
 use Rattle.printed.proofs.write_text.Statement.{statement}
 use Rattle.printed.proofs.write_text.Tie as tie
 
+-- ---- places of the code, seen from later ones
+-- where the call began
+abbrev began : tie.After-plan → tie.Start
+began c = c .before .before .before .before .before .before .before .before .before .before
+
+-- the trip is judged, and that it is to be
+abbrev judging : tie.After-slice-known11 → tie.After-judge-first
+judging c = c .before .before .before .before .before .before .before .before .before .before .before .before
+
+abbrev good : tie.After-judge-first → tie.Else1
+good c = c .before .before .before .before .before
+
+-- ---- what they know
 abbrev read : tie.Start → ReadAnswer
 read c = c .args .read
 
@@ -29,7 +42,7 @@ same-length c = search needs
 
 returns : tie.Need-returns
 returns c =
-    let here = c .before .before .before .before .before .before .before .before .before .before .before .before .before .before .before in
+    let here = began (c .before .before .before .before .before) in
     let is-bad : read here .refusal ≡ accepted → ⊥ = λ (zero : read here .refusal ≡ accepted). omega arith in
     let wrote = c .before .before .report-refusal .ensures in
     let text = refused-text (read here) (lanes here) is-bad (roomsIn (lent here)) in
@@ -58,9 +71,9 @@ same-length-6 c = search needs
 
 returns-2 : tie.Need-returns-2
 returns-2 c =
-    let here = c .before .before .before .before .before .before .before .before .before .before .before .before .before .before .before .before .before .before .before .before .before .before .before .before .before .before .before .before in
-    let is-good : read here .refusal ≡ accepted = omega (arith, c .before .before .before .before .before .before .before .before .before .before .before .before .before .before .before .before .before .if1 .left) in
-    let judged = c .before .before .before .before .before .before .before .before .before .before .before .before .judge-first .ensures in
+    let here = began (good (judging c) .before) in
+    let is-good : read here .refusal ≡ accepted = omega (arith, good (judging c) .if1 .left) in
+    let judged = judging c .judge-first .ensures in
     let wrote = c .before .before .write-trip .ensures in
     let text = read-text (read here) (lanes here) is-good (roomsIn (lent here)) ∙ ap tripText (sym (judged .0)) in
     (rw text (wrote .0), rw text (wrote .1), rw text (wrote .2), judged .1 ∙ sym (read-lent (read here) (lanes here) is-good (lent here)))

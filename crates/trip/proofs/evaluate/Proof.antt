@@ -15,6 +15,19 @@ use borrow.Author.Needs.{needs}
 use Rattle.trip.proofs.evaluate.Statement.{statement}
 use Rattle.trip.proofs.evaluate.Tie as tie
 
+-- ---- places of the code, seen from later ones: only these lines count what stands between
+-- where the call began
+abbrev began : tie.After-fault-of → tie.Start
+began c = c .before .before .before .before .before .before .before .before .before
+
+-- the trip is let through, and its windows are found
+abbrev through : tie.After-find → tie.Else1
+through c = c .before .before .before .before
+
+abbrev finding : tie.After-measure-arg → tie.After-find
+finding c = c .before .before .before .before .before .before .before
+
+-- ---- what they know
 abbrev trip : tie.Start → Lanes
 trip c = lanesOf (c .args .states .now) (c .args .speeds .now) (c .args .altitudes .now) (c .args .co2 .now) (c .args .nox .now)
 
@@ -25,17 +38,17 @@ abbrev rooms : tie.Start → Rooms
 rooms c = roomsIn (lent c)
 
 -- the test that lets a trip through
-number-zero : (c : tie.Else1) → tripFault (c .before .before .before .before .before .before .before .before .before .before .args .plan) (trip (c .before .before .before .before .before .before .before .before .before .before)) (rooms (c .before .before .before .before .before .before .before .before .before .before)) .number ≡ accepted
+number-zero : (c : tie.Else1) → let start = began (c .before) in tripFault (start .args .plan) (trip start) (rooms start) .number ≡ accepted
 number-zero c = ap (λ (f : Fault). f .number) (sym (c .before .fault-of .ensures)) ∙ c .if1 .left
 
-ok : (c : tie.Else1) → Accepted (c .before .before .before .before .before .before .before .before .before .before .args .plan) (trip (c .before .before .before .before .before .before .before .before .before .before)) (rooms (c .before .before .before .before .before .before .before .before .before .before))
+ok : (c : tie.Else1) → let start = began (c .before) in Accepted (start .args .plan) (trip start) (rooms start)
 ok c = passed _ _ _ (number-zero c)
 
-good : (c : tie.Else1) → isAccepted (c .before .before .before .before .before .before .before .before .before .before .args .plan) (trip (c .before .before .before .before .before .before .before .before .before .before)) (rooms (c .before .before .before .before .before .before .before .before .before .before)) ≡ true
+good : (c : tie.Else1) → let start = began (c .before) in isAccepted (start .args .plan) (trip start) (rooms start) ≡ true
 good c = is-accepted _ _ _ (number-zero c)
 
 -- the test that refuses it
-no-good : (c : tie.Then1) → isAccepted (c .before .before .before .before .before .before .before .before .before .before .args .plan) (trip (c .before .before .before .before .before .before .before .before .before .before)) (rooms (c .before .before .before .before .before .before .before .before .before .before)) ≡ false
+no-good : (c : tie.Then1) → let start = began (c .before) in isAccepted (start .args .plan) (trip start) (rooms start) ≡ false
 no-good c = is-refused _ _ _ (λ e. c .if1 .taken (ap (λ (f : Fault). f .number) (c .before .fault-of .ensures) ∙ e))
 
 fault-of-requires : tie.Need-fault-of-requires
@@ -53,10 +66,10 @@ find-requires : tie.Need-find-requires
 find-requires c κs = findable (ok (c .before .before .before))
 
 measure-requires : tie.Need-measure-requires
-measure-requires c κs = bin-lanes (ok (c .before .before .before .before .before .before .before .before .before .before .before)) _ refl
+measure-requires c κs = bin-lanes (ok (through (finding c))) _ refl
 
 conclude-requires : tie.Need-conclude-requires
-conclude-requires c κs = climb-lanes (ok (c .before .before .before .before .before .before .before .before .before .before .before .before .before .before))
+conclude-requires c κs = climb-lanes (ok (through (finding (c .before .before .before))))
 
 same-length : tie.Need-same-length
 same-length c = search needs
@@ -73,10 +86,11 @@ same-length-4 c = search needs
 returns-2 : tie.Need-returns-2
 unfolding lentWritten
 returns-2 c =
-    let yes = good (c .before .before .before .before .before .before .before .before .before .before .before .before .before .before .before) in
-    let f = c .before .before .before .before .before .before .before .before .before .before .before .find .ensures in
+    let found = finding (c .before .before .before .before) in
+    let yes = good (through found) in
+    let f = found .find .ensures in
     let m = c .before .before .before .measure .ensures in
-    (rw (accepted-answer _ _ _ yes, c .conclude .ensures, f .0, m .0) refl, same-lent (f .1) (f .2) (f .3) (m .1) ∙ sym (accepted-lent _ _ _ yes))
+    (rw (c .conclude .ensures, f .0, m .0, accepted-answer _ _ _ yes) refl, same-lent (f .1) (f .2) (f .3) (m .1) ∙ sym (accepted-lent _ _ _ yes))
 
 pub evaluate-spec : {M : Type 1} → statement M
 evaluate-spec =
