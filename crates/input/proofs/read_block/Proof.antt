@@ -14,7 +14,10 @@ use Rattle.input.proofs.read_block.Tie as tie
 abbrev began : tie.After-count → tie.Start
 began c = c .before .before .before .before .before .before .before .before .before .before .before
 
--- where bytes came, from where they are to be fed
+-- where the block was read and fed, from the return; where bytes came, from where they are to be fed
+abbrev fed : tie.After-struct-known → tie.After-feed
+fed c = c .before .before .before .before .before .before .before .before .before .before .before
+
 abbrev some-came : tie.After-feed-arg6 → tie.Else1
 some-came c = c .before .before .before .before .before .before
 
@@ -47,7 +50,7 @@ feed-requires : tie.Need-feed-requires
 feed-requires c κs = search needs
 
 same-length-2 : tie.Need-same-length-2
-same-length-2 c = c .before .before .before .before .before .before .before .before .before .before .before .before .before .before .before .before .before .before .before .before .before .before .before .read .kept .1 .0
+same-length-2 c = some-came (fed c .before) .before .before .before .before .before .read .kept .1 .0
 
 same-length-3 : tie.Need-same-length-3
 same-length-3 c = search needs
@@ -66,8 +69,8 @@ same-length-7 c = search needs
 
 returns-2 : tie.Need-returns-2
 returns-2 c =
-    let feed = c .before .before .before .before .before .before .before .before .before .before .before .feed in
-    let ready = c .before .before .before .before .before .before .before .before .before .before .before .before in
+    let feed = fed c .feed in
+    let ready = fed c .before in
     let counted = some-came ready .before in
     let start = began counted in
     let long = counted .before .before .before .before .read .kept .1 .0 ∙ start .pre .1 in
