@@ -1,5 +1,5 @@
 -- Demands 1 and 2: every public call takes all inputs, its contract says what the definition says, and so determines the entire result and each lent lane.
-use Prim.Native.Nat.{ℕ}
+use Prim.Native.Nat.{ℕ, _+_}
 use mathlib.Core.Path.{_≡_, refl, sym, _∙_}
 use mathlib.Core.List.{List}
 use lib.ListN.{length}
@@ -89,25 +89,38 @@ nox-mass = record { takes-all = λ κs a. tt; means = λ κs a x e p. (p, refl) 
 pub read-item : Gives read-item-call.Pre read-item-call.Post (λ κs a. itemOf (a .0 .now))
 read-item = record { takes-all = λ κs a. tt; means = λ κs a x e p. (p, refl) }
 
+-- how many lanes are lent: those of a trip; with the bytes that are read; with the four that an evaluation fills; with a buffer
+abbrev pub tripLanes : ℕ
+tripLanes = 5
+
+abbrev pub streamLanes : ℕ
+streamLanes = tripLanes + 1
+
+abbrev pub evaluationLanes : ℕ
+evaluationLanes = tripLanes + 4
+
+abbrev pub printLanes : ℕ
+printLanes = evaluationLanes + 1
+
 -- D of a second: the five lanes of a trip, and the index
-abbrev pub lanesBefore : (κs : Lfts 5) → contract.Dens κs d-kinds.ps → Lanes
+abbrev pub lanesBefore : (κs : Lfts tripLanes) → contract.Dens κs d-kinds.ps → Lanes
 lanesBefore κs a = lanesOf (a .0 .now) (a .1 .0 .now) (a .1 .1 .0 .now) (a .1 .1 .1 .0 .now) (a .1 .1 .1 .1 .0 .now)
 
-abbrev pub indexBehind : (κs : Lfts 5) → contract.Dens κs d-kinds.ps → ℕ
+abbrev pub indexBehind : (κs : Lfts tripLanes) → contract.Dens κs d-kinds.ps → ℕ
 indexBehind κs a = a .1 .1 .1 .1 .1 .0
 
 pub d-of-second : Gives d-of-second-call.Pre d-of-second-call.Post (λ κs a. accelerationOf (lanesBefore κs a) (indexBehind κs a))
 d-of-second = record { takes-all = λ κs a. tt; means = λ κs a x e p. (p, refl) }
 
 -- ---- the stream: its bytes, and the five lanes
-abbrev pub lanesToFill : (κs : Lfts 6) → contract.Dens κs stream-kinds.ps → Lanes
+abbrev pub lanesToFill : (κs : Lfts streamLanes) → contract.Dens κs stream-kinds.ps → Lanes
 lanesToFill κs a = lanesOf (a .1 .0 .now) (a .1 .1 .0 .now) (a .1 .1 .1 .0 .now) (a .1 .1 .1 .1 .0 .now) (a .1 .1 .1 .1 .1 .0 .now)
 
-abbrev pub lanesFilled : (κs : Lfts 6) → AtExit (contract.endedOf 6 stream-kinds.ps stream-kinds.r) κs → Lanes
+abbrev pub lanesFilled : (κs : Lfts streamLanes) → AtExit (contract.endedOf streamLanes stream-kinds.ps stream-kinds.r) κs → Lanes
 lanesFilled κs e = lanesOf (e .1 .0 .now) (e .1 .1 .0 .now) (e .1 .1 .1 .0 .now) (e .1 .1 .1 .1 .0 .now) (e .1 .1 .1 .1 .1 .0 .now)
 
 -- a call that reads a whole stream
-abbrev pub ReadsStream : contract.In 6 stream-kinds.ps → contract.Out 6 stream-kinds.ps stream-kinds.r → Type 0
+abbrev pub ReadsStream : contract.In streamLanes stream-kinds.ps → contract.Out streamLanes stream-kinds.ps stream-kinds.r → Type 0
 ReadsStream asks allows =
     Answers Lanes asks allows
     (λ κs a. readOf (roomIn (lanesToFill κs a)) (a .0 .now))
@@ -125,14 +138,14 @@ pub start : Starts start-call.Pre start-call.Post
 start = record { takes-all = λ κs a. tt; means = λ κs a x e p. (p, refl) }
 
 -- a reader, a block, and the five lanes
-abbrev pub lanesToFeed : (κs : Lfts 6) → contract.Dens κs feed-kinds.ps → Lanes
+abbrev pub lanesToFeed : (κs : Lfts streamLanes) → contract.Dens κs feed-kinds.ps → Lanes
 lanesToFeed κs a = lanesOf (a .1 .1 .0 .now) (a .1 .1 .1 .0 .now) (a .1 .1 .1 .1 .0 .now) (a .1 .1 .1 .1 .1 .0 .now) (a .1 .1 .1 .1 .1 .1 .0 .now)
 
-abbrev pub lanesAfterFeeding : (κs : Lfts 6) → AtExit (contract.endedOf 6 feed-kinds.ps feed-kinds.r) κs → Lanes
+abbrev pub lanesAfterFeeding : (κs : Lfts streamLanes) → AtExit (contract.endedOf streamLanes feed-kinds.ps feed-kinds.r) κs → Lanes
 lanesAfterFeeding κs e = lanesOf (e .1 .1 .0 .now) (e .1 .1 .1 .0 .now) (e .1 .1 .1 .1 .0 .now) (e .1 .1 .1 .1 .1 .0 .now) (e .1 .1 .1 .1 .1 .1 .0 .now)
 
 -- a call that feeds the block to the reader and the lanes
-abbrev pub Feeds : contract.In 6 feed-kinds.ps → contract.Out 6 feed-kinds.ps feed-kinds.r → Type 0
+abbrev pub Feeds : contract.In streamLanes feed-kinds.ps → contract.Out streamLanes feed-kinds.ps feed-kinds.r → Type 0
 Feeds asks allows =
     Answers Lanes asks allows
     (λ κs a. fedOf (roomIn (lanesToFeed κs a)) (a .0) (a .1 .0 .now))
@@ -164,17 +177,17 @@ pub percentile : Answers (List ℕ) percentile-call.Pre percentile-call.Post (λ
 percentile = record { takes-all = λ κs a. tt; means = λ κs a x e p. p }
 
 -- ---- the trip: the plan, the five lanes, and the four lent lanes
-abbrev pub tripIn : (κs : Lfts 9) → contract.Dens κs trip-kinds.ps → Lanes
+abbrev pub tripIn : (κs : Lfts evaluationLanes) → contract.Dens κs trip-kinds.ps → Lanes
 tripIn κs a = lanesOf (a .1 .0 .now) (a .1 .1 .0 .now) (a .1 .1 .1 .0 .now) (a .1 .1 .1 .1 .0 .now) (a .1 .1 .1 .1 .1 .0 .now)
 
-abbrev pub lentIn : (κs : Lfts 9) → contract.Dens κs trip-kinds.ps → Lent
+abbrev pub lentIn : (κs : Lfts evaluationLanes) → contract.Dens κs trip-kinds.ps → Lent
 lentIn κs a = let b = a .1 .1 .1 .1 .1 .1 in lentOf (b .0 .now) (b .1 .0 .now) (b .1 .1 .0 .now) (b .1 .1 .1 .0 .now)
 
-abbrev pub lentAtExit : (κs : Lfts 9) → AtExit (contract.endedOf 9 trip-kinds.ps trip-kinds.r) κs → Lent
+abbrev pub lentAtExit : (κs : Lfts evaluationLanes) → AtExit (contract.endedOf evaluationLanes trip-kinds.ps trip-kinds.r) κs → Lent
 lentAtExit κs e = let b = e .1 .1 .1 .1 .1 .1 in lentOf (b .0 .now) (b .1 .0 .now) (b .1 .1 .0 .now) (b .1 .1 .1 .0 .now)
 
 -- a call that evaluates a trip
-abbrev pub Evaluates : contract.In 9 trip-kinds.ps → contract.Out 9 trip-kinds.ps trip-kinds.r → Type 0
+abbrev pub Evaluates : contract.In evaluationLanes trip-kinds.ps → contract.Out evaluationLanes trip-kinds.ps trip-kinds.r → Type 0
 Evaluates asks allows =
     Answers Lent asks allows
     (λ κs a. answerOf (a .0) (tripIn κs a) (roomsIn (lentIn κs a)))
@@ -199,19 +212,19 @@ pub report-refusal : Answers (List ℕ) report-refusal-call.Pre report-refusal-c
 report-refusal = record { takes-all = λ κs a. tt; means = λ κs a x e p. p }
 
 -- what is printed for a stream that was read: the reading's answer, the five lanes, the four lent lanes, and the buffer
-abbrev pub lanesRead : (κs : Lfts 10) → contract.Dens κs print-kinds.ps → Lanes
+abbrev pub lanesRead : (κs : Lfts printLanes) → contract.Dens κs print-kinds.ps → Lanes
 lanesRead κs a = lanesOf (a .1 .0 .now) (a .1 .1 .0 .now) (a .1 .1 .1 .0 .now) (a .1 .1 .1 .1 .0 .now) (a .1 .1 .1 .1 .1 .0 .now)
 
-abbrev pub lentToPrint : (κs : Lfts 10) → contract.Dens κs print-kinds.ps → Lent
+abbrev pub lentToPrint : (κs : Lfts printLanes) → contract.Dens κs print-kinds.ps → Lent
 lentToPrint κs a = let b = a .1 .1 .1 .1 .1 .1 in lentOf (b .0 .now) (b .1 .0 .now) (b .1 .1 .0 .now) (b .1 .1 .1 .0 .now)
 
-abbrev pub printBuffer : (κs : Lfts 10) → contract.Dens κs print-kinds.ps → List ℕ
+abbrev pub printBuffer : (κs : Lfts printLanes) → contract.Dens κs print-kinds.ps → List ℕ
 printBuffer κs a = a .1 .1 .1 .1 .1 .1 .1 .1 .1 .1 .0 .now
 
-abbrev pub textPrinted : (κs : Lfts 10) → contract.Dens κs print-kinds.ps → List ℕ
+abbrev pub textPrinted : (κs : Lfts printLanes) → contract.Dens κs print-kinds.ps → List ℕ
 textPrinted κs a = printedText (a .0) (lanesRead κs a) (roomsIn (lentToPrint κs a))
 
-abbrev pub lentAndBufferAtExit : (κs : Lfts 10) → AtExit (contract.endedOf 10 print-kinds.ps print-kinds.r) κs → Lent × List ℕ
+abbrev pub lentAndBufferAtExit : (κs : Lfts printLanes) → AtExit (contract.endedOf printLanes print-kinds.ps print-kinds.r) κs → Lent × List ℕ
 lentAndBufferAtExit κs e =
     let b = e .1 .1 .1 .1 .1 .1 in
     (lentOf (b .0 .now) (b .1 .0 .now) (b .1 .1 .0 .now) (b .1 .1 .1 .0 .now), b .1 .1 .1 .1 .0 .now)

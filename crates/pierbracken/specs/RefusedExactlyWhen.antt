@@ -74,7 +74,7 @@ use Rattle.capi.proofs.sweeping.pb_sweep.Reads as pb-sweep-call
 use Rattle.capi.proofs.accelerations.pb_acceleration.Reads as pb-acceleration-call
 use Rattle.capi.proofs.accelerations.pb_percentile.Reads as pb-percentile-call
 use Rattle.capi.proofs.trips.pb_evaluate.Reads as pb-evaluate-call
-use Rattle.pierbracken.specs.Calls.{Answers, lanesBefore, indexBehind, tripIn, lentIn, textPrinted, printBuffer}
+use Rattle.pierbracken.specs.Calls.{Answers, streamLanes, evaluationLanes, lanesBefore, indexBehind, tripIn, lentIn, textPrinted, printBuffer}
 use Rattle.pierbracken.specs.Calls as calls
 use Rattle.pierbracken.specs.FromC as from-c
 
@@ -171,7 +171,7 @@ unfolding frontAcross
 pb-item-refused = of-call from-c.pb-item (λ κs a. one-item (a .0 .now))
 
 -- a whole stream
-abbrev StreamRefused : contract.Out 6 stream-kinds.ps stream-kinds.r → Type 0
+abbrev StreamRefused : contract.Out streamLanes stream-kinds.ps stream-kinds.r → Type 0
 StreamRefused allows =
     RefusedAs allows (λ κs x. x) (λ κs a. stream-outcomes.Outcome (roomIn (calls.lanesToFill κs a)) (a .0 .now))
 
@@ -207,7 +207,7 @@ pub pb-percentile-refused : RefusedAs pb-percentile-call.Post (λ κs x. fault (
 pb-percentile-refused = of-call from-c.pb-percentile (λ κs a. through (crossing.percentile-fault _) (ranking (a .0 .now) (length (a .1 .0 .now))))
 
 -- a trip
-abbrev TripRefused : contract.Out 9 trip-kinds.ps trip-kinds.r → Type 0
+abbrev TripRefused : contract.Out evaluationLanes trip-kinds.ps trip-kinds.r → Type 0
 TripRefused allows =
     RefusedAs allows (λ κs x. fault (x .refusal) (x .place)) (λ κs a. trip-outcomes.Given (a .0) (tripIn κs a) (roomsIn (lentIn κs a)))
 

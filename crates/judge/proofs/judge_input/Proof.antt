@@ -21,6 +21,11 @@ ended c = c .before .before .before .before .before .before .before .before .bef
 abbrev printed : tie.After-slice-known20 → tie.After-print-answer
 printed c = c .before .before .before .before .before .before .before .before .before .before
 
+-- ---- what they know
+-- the reading, from the return
+abbrev reading : tie.After-slice-known20 → tie.After-read-input
+reading c = read (ended (printed c .before) .before .before)
+
 read-input-requires : tie.Need-read-input-requires
 read-input-requires c κs = began c .pre .0
 
@@ -52,42 +57,42 @@ print-answer-requires : tie.Need-print-answer-requires
 print-answer-requires c κs = began (read (ended c .before .before) .before) .pre .1 .1
 
 same-length-7 : tie.Need-same-length-7
-same-length-7 c = read (ended (printed c .before) .before .before) .read-input .kept .0
+same-length-7 c = reading c .read-input .kept .0
 
 same-length-8 : tie.Need-same-length-8
-same-length-8 c = search needs
+same-length-8 c = search (needs, reading c .read-input .kept, printed c .print-answer .kept)
 
 same-length-9 : tie.Need-same-length-9
-same-length-9 c = search needs
+same-length-9 c = search (needs, reading c .read-input .kept, printed c .print-answer .kept)
 
 same-length-10 : tie.Need-same-length-10
-same-length-10 c = search needs
+same-length-10 c = search (needs, reading c .read-input .kept, printed c .print-answer .kept)
 
 same-length-11 : tie.Need-same-length-11
-same-length-11 c = search needs
+same-length-11 c = search (needs, reading c .read-input .kept, printed c .print-answer .kept)
 
 same-length-12 : tie.Need-same-length-12
-same-length-12 c = search needs
+same-length-12 c = search (needs, reading c .read-input .kept, printed c .print-answer .kept)
 
 same-length-13 : tie.Need-same-length-13
-same-length-13 c = search needs
+same-length-13 c = search (needs, reading c .read-input .kept, printed c .print-answer .kept)
 
 same-length-14 : tie.Need-same-length-14
-same-length-14 c = search needs
+same-length-14 c = search (needs, reading c .read-input .kept, printed c .print-answer .kept)
 
 same-length-15 : tie.Need-same-length-15
-same-length-15 c = search needs
+same-length-15 c = search (needs, reading c .read-input .kept, printed c .print-answer .kept)
 
 same-length-16 : tie.Need-same-length-16
-same-length-16 c = search needs
+same-length-16 c = search (needs, reading c .read-input .kept, printed c .print-answer .kept)
 
 same-length-17 : tie.Need-same-length-17
-same-length-17 c = search needs
+same-length-17 c = search (needs, reading c .read-input .kept, printed c .print-answer .kept)
 
 returns-2 : tie.Need-returns-2
 returns-2 c =
     let answer = ended (printed c .before) in
-    let here = read (answer .before .before) in
+    let here = reading c in
     (λ judged. judged-as-one _ (here .read-input .result .reader) _ _ (answer .end .result) _ _ (began (here .before) .pre .1 .0) (here .read-input .ensures .0) (answer .end .ensures) (printed c .print-answer .ensures .0), λ (failed : true ≡ false). absurd (true≢false failed))
 
 pub judge-input-spec : {M : Type 1} → statement M
