@@ -19,7 +19,7 @@ use Rattle.reader.proofs.EachLane.{each-same, each-long}
 use Rattle.reader.proofs.Making.{start-made, start-places, feeding-places, fed-nothing}
 use Rattle.reader.proofs.Whole.{fed-made, lane-made, fed-all, lane-all}
 use Rattle.second.specs.Lanes.{Lanes, roomIn, eachLane}
-use Rattle.second.proofs.EachLane.{EachLane, same-room}
+use Rattle.second.proofs.EachLane.{Long, same-room}
 use Rattle.input.specs.Inside.{HasFed}
 use Rattle.input.specs.Input.{blockMost, Block, HasRead}
 
@@ -87,7 +87,7 @@ lane-long room A value [] r lane = refl
 lane-long room A value (block ∷ blocks) r lane = lane-long room A value blocks (readerAfter room r block) (laneWith value room r block lane) ∙ length-sets lane (r .seconds) (map value (secondsAdded room r block))
 
 -- the lanes keep their lengths
-pub read-long : (before : Lanes) (r : Reader) (after : Lanes) → HasRead before r after → EachLane (λ A value a b. length b ≡ length a) before after
+pub read-long : (before : Lanes) (r : Reader) (after : Lanes) → HasRead before r after → Long before after
 read-long before r after read =
     rw (read .lanes) (each-long (λ A value. laneAll value (roomIn before) started (read .blocks)) before (λ A value lane. lane-long (roomIn before) A value (read .blocks) started lane))
 

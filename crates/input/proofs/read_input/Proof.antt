@@ -4,7 +4,7 @@ use mathlib.Core.Path.{_≡_, refl, _∙_}
 use native.Mathlib.Omega.{arith}
 use lib.ListN.{length}
 use Rattle.second.specs.Lanes.{Lanes, lanesOf}
-use Rattle.second.proofs.EachLane.{EachLane}
+use Rattle.second.proofs.EachLane.{Long}
 use Rattle.input.proofs.Blocks.{read-long}
 use Rattle.input.proofs.Settling.{enough-is}
 use Rattle.input.proofs.Reading.{Stands, stands-first, stands-next, reaches-all}
@@ -42,7 +42,7 @@ abbrev lanesNow : tie.At-loop Inv-loop μ-loop → Lanes
 lanesNow l = lanesOf (l .loop .states) (l .loop .speeds) (l .loop .altitudes) (l .loop .co2) (l .loop .nox)
 
 -- they are as long as they were lent
-long-here : (l : tie.At-loop Inv-loop μ-loop) → EachLane (λ A value a b. length b ≡ length a) (lanesLent l) (lanesNow l)
+long-here : (l : tie.At-loop Inv-loop μ-loop) → Long (lanesLent l) (lanesNow l)
 long-here l = read-long (lanesLent l) (l .loop .input .reader) (lanesNow l) (l .loop .inv .1 .read)
 
 start-requires : tie.Need-start-requires Inv-loop μ-loop
