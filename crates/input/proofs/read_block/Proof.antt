@@ -49,6 +49,17 @@ slice-aggregate-feed c = search needs
 feed-requires : tie.Need-feed-requires
 feed-requires c κs = search needs
 
+-- before the lengths, which lanes that are exchanged would break too
+returns-2 : tie.Need-returns-2
+returns-2 c =
+    let feed = fed c .feed in
+    let ready = fed c .before in
+    let counted = some-came ready .before in
+    let start = began counted in
+    let long = counted .before .before .before .before .read .kept .1 .0 ∙ start .pre .1 in
+    let bytes = counted .before .before .slice-known6 .given in
+    (has-fed _ _ (start .args .reader) _ (start .pre .0 .made) (feed .result) (block-of (counted .count .result) _ long (λ i. omega (arith, bytes i))) (feed .ensures .0) (feed .ensures .1), (omega (arith, counted .count .ensures .0 .0, long), goes-by-reader (counted .count .result) (feed .result .reader .refusal) (some-came ready .if1 .left)))
+
 same-length-2 : tie.Need-same-length-2
 same-length-2 c = some-came (fed c .before) .before .before .before .before .before .read .kept .1 .0
 
@@ -66,16 +77,6 @@ same-length-6 c = fed c .feed .kept .1 .1 .1 .1 .1 .0
 
 same-length-7 : tie.Need-same-length-7
 same-length-7 c = fed c .feed .kept .1 .1 .1 .1 .1 .1 .0
-
-returns-2 : tie.Need-returns-2
-returns-2 c =
-    let feed = fed c .feed in
-    let ready = fed c .before in
-    let counted = some-came ready .before in
-    let start = began counted in
-    let long = counted .before .before .before .before .read .kept .1 .0 ∙ start .pre .1 in
-    let bytes = counted .before .before .slice-known6 .given in
-    (has-fed _ _ (start .args .reader) _ (start .pre .0 .made) (feed .result) (block-of (counted .count .result) _ long (λ i. omega (arith, bytes i))) (feed .ensures .0) (feed .ensures .1), (omega (arith, counted .count .ensures .0 .0, long), goes-by-reader (counted .count .result) (feed .result .reader .refusal) (some-came ready .if1 .left)))
 
 pub read-block-spec : {M : Type 1} → statement M
 read-block-spec =
