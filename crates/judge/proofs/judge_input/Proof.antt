@@ -75,19 +75,19 @@ same-length-12 : tie.Need-same-length-12
 same-length-12 c = reading c .read-input .kept .1 .1 .1 .1 .1 .0
 
 same-length-13 : tie.Need-same-length-13
-same-length-13 c = printed c .print-answer .kept .1 .1 .1 .1 .1 .1 .0
+same-length-13 c = search (needs, printed c .print-answer .kept)
 
 same-length-14 : tie.Need-same-length-14
-same-length-14 c = printed c .print-answer .kept .1 .1 .1 .1 .1 .1 .1 .0
+same-length-14 c = search (needs, printed c .print-answer .kept)
 
 same-length-15 : tie.Need-same-length-15
-same-length-15 c = printed c .print-answer .kept .1 .1 .1 .1 .1 .1 .1 .1 .0
+same-length-15 c = search (needs, printed c .print-answer .kept)
 
 same-length-16 : tie.Need-same-length-16
-same-length-16 c = printed c .print-answer .kept .1 .1 .1 .1 .1 .1 .1 .1 .1 .0
+same-length-16 c = search (needs, printed c .print-answer .kept)
 
 same-length-17 : tie.Need-same-length-17
-same-length-17 c = printed c .print-answer .kept .1 .1 .1 .1 .1 .1 .1 .1 .1 .1 .0
+same-length-17 c = search (needs, printed c .print-answer .kept)
 
 returns-2 : tie.Need-returns-2
 returns-2 c =

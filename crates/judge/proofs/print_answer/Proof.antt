@@ -39,19 +39,19 @@ write-all-requires-2 : tie.Need-write-all-requires-2
 write-all-requires-2 c κs = search needs
 
 same-length : tie.Need-same-length
-same-length c = wrote (c .before .before .before .before .before) .write-text .kept .1 .1 .1 .1 .1 .1 .0
+same-length c = search (needs, wrote (c .before .before .before .before .before) .write-text .kept)
 
 same-length-2 : tie.Need-same-length-2
-same-length-2 c = wrote (c .before .before .before .before .before) .write-text .kept .1 .1 .1 .1 .1 .1 .1 .0
+same-length-2 c = search (needs, wrote (c .before .before .before .before .before) .write-text .kept)
 
 same-length-3 : tie.Need-same-length-3
-same-length-3 c = wrote (c .before .before .before .before .before) .write-text .kept .1 .1 .1 .1 .1 .1 .1 .1 .0
+same-length-3 c = search (needs, wrote (c .before .before .before .before .before) .write-text .kept)
 
 same-length-4 : tie.Need-same-length-4
-same-length-4 c = wrote (c .before .before .before .before .before) .write-text .kept .1 .1 .1 .1 .1 .1 .1 .1 .1 .0
+same-length-4 c = search (needs, wrote (c .before .before .before .before .before) .write-text .kept)
 
 same-length-5 : tie.Need-same-length-5
-same-length-5 c = wrote (c .before .before .before .before .before) .write-text .kept .1 .1 .1 .1 .1 .1 .1 .1 .1 .1 .0
+same-length-5 c = search (needs, wrote (c .before .before .before .before .before) .write-text .kept)
 
 returns : tie.Need-returns
 returns c =
@@ -60,19 +60,19 @@ returns c =
     (at-front _ _ _ (written .1) (written .2) (began here .pre), written .3)
 
 same-length-6 : tie.Need-same-length-6
-same-length-6 c = wrote (c .before .before .before) .write-text .kept .1 .1 .1 .1 .1 .1 .0
+same-length-6 c = search (needs, wrote (c .before .before .before) .write-text .kept)
 
 same-length-7 : tie.Need-same-length-7
-same-length-7 c = wrote (c .before .before .before) .write-text .kept .1 .1 .1 .1 .1 .1 .1 .0
+same-length-7 c = search (needs, wrote (c .before .before .before) .write-text .kept)
 
 same-length-8 : tie.Need-same-length-8
-same-length-8 c = wrote (c .before .before .before) .write-text .kept .1 .1 .1 .1 .1 .1 .1 .1 .0
+same-length-8 c = search (needs, wrote (c .before .before .before) .write-text .kept)
 
 same-length-9 : tie.Need-same-length-9
-same-length-9 c = wrote (c .before .before .before) .write-text .kept .1 .1 .1 .1 .1 .1 .1 .1 .1 .0
+same-length-9 c = search (needs, wrote (c .before .before .before) .write-text .kept)
 
 same-length-10 : tie.Need-same-length-10
-same-length-10 c = wrote (c .before .before .before) .write-text .kept .1 .1 .1 .1 .1 .1 .1 .1 .1 .1 .0
+same-length-10 c = search (needs, wrote (c .before .before .before) .write-text .kept)
 
 returns-2 : tie.Need-returns-2
 returns-2 c =
