@@ -3,3 +3,4 @@ pub mod Lanes
 pub mod Facts
 pub mod EachLane
 pub mod Values
+pub mod Rows

@@ -3,3 +3,5 @@ pub mod Streams
 pub mod Chain
 pub mod Refused
 pub mod Answers
+pub mod WrittenRead
+pub mod ReadWritten
