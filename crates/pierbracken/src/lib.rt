@@ -28,6 +28,10 @@ pub use second::Row;
 pub use stream::ReadAnswer;
 pub use stream::read_stream;
 
+// The stream of a plan and five lanes, written into a lent buffer.
+pub use writer::WriteAnswer;
+pub use writer::write_stream;
+
 // A stream that arrives in blocks, cut anywhere: a reader is fed block by block and asked at the end.
 pub use blocks::feed;
 pub use reader::Fed;

@@ -39,7 +39,7 @@ module _ (plan : Plan) (trip : Lanes) (buffer : List ℕ) where
   unfolding bufferAfter
   refused-buffer bad = rw (ne-eqb (writeFault plan trip (length buffer) .number) 0 bad)
 
-  accepted-buffer : writeFault plan trip (length buffer) .number ≡ 0 → bufferAfter plan trip buffer ≡ streamOf plan trip ++ drop (length (streamOf plan trip)) buffer
+  pub accepted-buffer : writeFault plan trip (length buffer) .number ≡ 0 → bufferAfter plan trip buffer ≡ streamOf plan trip ++ drop (length (streamOf plan trip)) buffer
   unfolding bufferAfter
   accepted-buffer z = rw z
 

@@ -5,3 +5,4 @@ pub mod Refused
 pub mod Answers
 pub mod WrittenRead
 pub mod ReadWritten
+pub mod Theorems
