@@ -48,6 +48,24 @@ pub fn missing_with_values() -> Second {
     }
 }
 
+/// Seconds that are 3, each for a reason of its own.
+pub fn bad_seconds() -> [Second; 8] {
+    let wild = missing_with_values();
+    [
+        Second { state: 0, ..wild },
+        Second {
+            state: 4,
+            ..measured(25_000, 500_000, 100_000, 10_000_000)
+        },
+        Second { state: 1, ..wild },
+        measured(25_001, 0, 0, 0),
+        check(0, -50_001, 0, 0),
+        measured(0, 500_001, 0, 0),
+        check(0, 0, 100_001, 0),
+        measured(0, 0, 0, 10_000_001),
+    ]
+}
+
 /// Measured seconds of these speeds, everything else 0.
 pub fn of_speeds(speeds: &[u16]) -> Vec<Second> {
     speeds.iter().map(|&v| measured(v, 0, 0, 0)).collect()
@@ -72,6 +90,22 @@ impl Lanes {
             co2: seconds.iter().map(|s| s.co2).collect(),
             nox: seconds.iter().map(|s| s.nox).collect(),
         }
+    }
+
+    /// Each lane in turn without its last place.
+    pub fn each_shorter(&self) -> [Lanes; 5] {
+        let shorten: [fn(&mut Lanes); 5] = [
+            |lanes| lanes.states.truncate(lanes.states.len() - 1),
+            |lanes| lanes.speeds.truncate(lanes.speeds.len() - 1),
+            |lanes| lanes.altitudes.truncate(lanes.altitudes.len() - 1),
+            |lanes| lanes.co2.truncate(lanes.co2.len() - 1),
+            |lanes| lanes.nox.truncate(lanes.nox.len() - 1),
+        ];
+        shorten.map(|shorten| {
+            let mut lanes = self.clone();
+            shorten(&mut lanes);
+            lanes
+        })
     }
 
     pub fn trip(&self) -> TripLanes<'_> {
