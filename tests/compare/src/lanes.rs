@@ -1,4 +1,4 @@
-//! The five lanes of a trip and the four lent ones, for both sides.
+//! The five lanes of a trip, the four lent ones and the buffer of a stream, for both sides.
 
 use oracle::second::{Second, TripLanes};
 use oracle::stream::StreamLanes;
@@ -123,6 +123,40 @@ impl Lent {
             ends: &mut self.ends,
             ranks: &mut self.ranks,
         }
+    }
+}
+
+/// What the caller left in the places of a buffer and beside them.
+const GUARD: u8 = 0xa5;
+
+/// How many guarded bytes lie on either side of a buffer: more than an item has.
+const BESIDE: usize = 32;
+
+/// A buffer lent to the writer, between bytes that no call may touch.
+#[derive(Clone, Debug, PartialEq, Eq)]
+pub struct Buffer(Vec<u8>);
+
+impl Buffer {
+    pub fn guarded(places: usize) -> Buffer {
+        Buffer(vec![GUARD; BESIDE + places + BESIDE])
+    }
+
+    /// A buffer of so many places that holds a stream, and behind it what the caller left.
+    pub fn holding(stream: &[u8], places: usize) -> Buffer {
+        let mut buffer = Buffer::guarded(places);
+        buffer.lent()[..stream.len()].copy_from_slice(stream);
+        buffer
+    }
+
+    /// Lent to either side.
+    pub fn lent(&mut self) -> &mut [u8] {
+        let end = self.0.len() - BESIDE;
+        &mut self.0[BESIDE..end]
+    }
+
+    /// What lies in it and beside it.
+    pub fn bytes(&self) -> &[u8] {
+        &self.0
     }
 }
 

@@ -5,7 +5,7 @@ use oracle::second::Second;
 use oracle::Plan;
 
 use super::Chosen;
-use crate::case::{Case, SweepInput, TripInput};
+use crate::case::{Case, SweepInput, TripInput, WriteInput};
 use crate::lanes::Lanes;
 
 const LIMIT: usize = 8_192;
@@ -29,6 +29,7 @@ const MEASURED: Second = Second {
 
 pub fn add(all: &mut Chosen) {
     trips(all);
+    writes(all);
     lanes_of_a_trip(all);
     d(all);
     sweeps(all);
@@ -102,6 +103,27 @@ fn evaluate(all: &mut Chosen, plan: Plan, trip: Lanes, places: [usize; 4]) {
     all.add("order of the trip", Case::Trip(input));
 }
 
+/// More bytes than the stream of any trip has.
+const ROOM: usize = 15 * (LIMIT + 2);
+
+fn write(all: &mut Chosen, plan: Plan, trip: Lanes, places: usize) {
+    let input = WriteInput { plan, trip, places };
+    all.add("writer, refusals", Case::Write(input));
+}
+
+/// Faults 5, 1, 2, 3, 6.
+fn writes(all: &mut Chosen) {
+    for faults in pairs(5) {
+        let trip = faulty(has(faults, 1), has(faults, 2), has(faults, 3), false);
+        let mut plan = PLAN;
+        if has(faults, 0) {
+            plan.upper[1] = 101;
+        }
+        let places = if has(faults, 4) { 40 } else { ROOM };
+        write(all, plan, trip, places);
+    }
+}
+
 /// Each lane one place shorter and one longer; each lent lane one shorter, and as the kept need.
 fn lanes_of_a_trip(all: &mut Chosen) {
     let good = faulty(false, false, false, false);
@@ -122,6 +144,7 @@ fn lanes_of_a_trip(all: &mut Chosen) {
                 (_, true) => trip.nox.push(1),
             }
             evaluate(all, PLAN, trip.clone(), [n + 1; 4]);
+            write(all, PLAN, trip.clone(), ROOM);
             all.add("order of D", Case::D { trip, index: 2 });
         }
     }
@@ -205,6 +228,7 @@ fn limits(all: &mut Chosen) {
     for n in [LIMIT, LIMIT + 1] {
         let trip = Lanes::of(&vec![MEASURED; n]);
         evaluate(all, PLAN, trip.clone(), [n; 4]);
+        write(all, PLAN, trip.clone(), ROOM);
         all.add("range of D", Case::D { trip, index: 7 });
         let input = SweepInput {
             reference: 20_000_000,
