@@ -63,6 +63,17 @@ impl Lanes {
         }
     }
 
+    /// The first seconds handed to the library: a tail is trimmed by handing over less.
+    pub fn front(&self, seconds: usize) -> library::Trip<'_> {
+        library::Trip {
+            states: &self.states[..seconds],
+            speeds: &self.speeds[..seconds],
+            altitudes: &self.altitudes[..seconds],
+            co2: &self.co2[..seconds],
+            nox: &self.nox[..seconds],
+        }
+    }
+
     /// Lent to the independent program.
     pub fn lent_on_paper(&mut self) -> StreamLanes<'_> {
         StreamLanes {
@@ -152,6 +163,11 @@ impl Buffer {
     pub fn lent(&mut self) -> &mut [u8] {
         let end = self.0.len() - BESIDE;
         &mut self.0[BESIDE..end]
+    }
+
+    /// The bytes that were written into its front; none where it has not so many places.
+    pub fn front(&mut self, bytes: usize) -> &[u8] {
+        self.lent().get(..bytes).unwrap_or_default()
     }
 
     /// What lies in it and beside it.

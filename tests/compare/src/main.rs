@@ -36,6 +36,7 @@ mod sweep;
 mod telling;
 mod trip;
 mod trips;
+mod writer;
 mod written;
 
 use account::Account;
@@ -87,6 +88,7 @@ fn compare_library(account: &mut Account) {
     mass::compare(account);
     stream::compare(account);
     blocks::compare(account);
+    writer::compare(account);
     bytes::compare(account);
     sweep::compare(account);
     dynamics::compare(account);

@@ -389,3 +389,19 @@ fn evaluated_lines(answer: &TripAnswer, lent: &Lent, printed: &Option<String>) -
 fn printed_lines(text: &str) -> Vec<String> {
     text.lines().map(|line| format!("| {line}")).collect()
 }
+
+#[cfg(test)]
+mod tests {
+    use super::Case;
+    use crate::chosen;
+
+    #[test]
+    fn each_chosen_call_there_and_back() {
+        for named in chosen::small() {
+            let lines = named.case.lines();
+            let words: Vec<&str> = lines.iter().map(String::as_str).collect();
+            let back = Case::of_lines(&words).map(|case| case.lines());
+            assert_eq!(back.as_ref(), Some(&lines), "{}", named.name);
+        }
+    }
+}

@@ -13,6 +13,8 @@ mod writes;
 
 use std::mem::discriminant;
 
+pub use streams::{plans_at_ends, seconds_at_ends};
+
 use crate::borders::{pairs, Pair, Trip};
 use crate::case::{Case, TripInput};
 use crate::frozen::Frozen;

@@ -67,7 +67,7 @@ fn items(all: &mut Chosen) {
 }
 
 /// Plans on both sides of every end of their ranges.
-pub(super) fn plans_at_ends() -> Vec<Plan> {
+pub fn plans_at_ends() -> Vec<Plan> {
     let mut plans = Vec::new();
     let mut plan = |change: &dyn Fn(&mut Plan)| {
         let mut changed = PLAN;
@@ -92,7 +92,7 @@ pub(super) fn plans_at_ends() -> Vec<Plan> {
 }
 
 /// Seconds of a state on both sides of every end of their ranges.
-pub(super) fn seconds_at_ends(state: u8) -> Vec<Second> {
+pub fn seconds_at_ends(state: u8) -> Vec<Second> {
     let mut seconds = Vec::new();
     let mut of = |speed, altitude, co2, nox| {
         seconds.push(second(state, speed, altitude, co2, nox));
