@@ -7,7 +7,7 @@ use oracle::Plan;
 
 use crate::account::{Account, Comparison};
 use crate::case::{fed_to_library, Case, WriteInput};
-use crate::chosen::{plans_at_ends, seconds_at_ends};
+use crate::chosen::{plans_at_ends, seconds_at_ends, PLAN};
 use crate::lanes::{plan_of, Buffer, Lanes};
 use crate::random::Random;
 use crate::stream::{full, STREAMS};
@@ -151,16 +151,6 @@ fn refusals(comparison: &mut Comparison, seed: u64) {
         }
     }
 }
-
-/// A plan in range.
-const PLAN: Plan = Plan {
-    reference: 1_200_000,
-    e1: 150_000,
-    e2: 140_000,
-    e3: 160_000,
-    lower: 25,
-    upper: [45, 40, 35],
-};
 
 /// A second in range.
 const GOOD: Second = Second {

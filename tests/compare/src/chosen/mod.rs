@@ -13,7 +13,7 @@ mod writes;
 
 use std::mem::discriminant;
 
-pub use streams::{plans_at_ends, seconds_at_ends};
+pub use streams::{plans_at_ends, seconds_at_ends, PLAN};
 
 use crate::borders::{pairs, Pair, Trip};
 use crate::case::{Case, TripInput};

@@ -7,7 +7,7 @@ use super::Chosen;
 use crate::case::Case;
 use crate::streams::of_trip;
 
-pub(super) const PLAN: Plan = Plan {
+pub const PLAN: Plan = Plan {
     reference: 70_000,
     e1: 200_000,
     e2: 140_000,

@@ -3,6 +3,7 @@
 use crate::random::Random;
 use oracle::numbers::{CHECK, MEASURED};
 use oracle::second::{Second, TripLanes};
+use oracle::stream::StreamLanes;
 use oracle::trip::LentLanes;
 use oracle::{Plan, Refusal};
 
@@ -108,6 +109,17 @@ impl Lanes {
         })
     }
 
+    /// Lent to the reader.
+    pub fn lent(&mut self) -> StreamLanes<'_> {
+        StreamLanes {
+            states: &mut self.states,
+            speeds: &mut self.speeds,
+            altitudes: &mut self.altitudes,
+            co2: &mut self.co2,
+            nox: &mut self.nox,
+        }
+    }
+
     pub fn trip(&self) -> TripLanes<'_> {
         TripLanes {
             states: &self.states,
@@ -193,6 +205,12 @@ pub fn random_second(random: &mut Random, wild: bool) -> Second {
             nox: random.between(0, 10_000_000) as u32,
         },
     }
+}
+
+/// Some such seconds, at most `most`.
+pub fn random_seconds(random: &mut Random, most: i64, wild: bool) -> Vec<Second> {
+    let count = random.between(0, most);
+    (0..count).map(|_| random_second(random, wild)).collect()
 }
 
 /// The plan and the seconds of a trip without a reason against it.

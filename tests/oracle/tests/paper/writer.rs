@@ -2,12 +2,12 @@
 
 use crate::as_it_stands::{read, write};
 use crate::build::{
-    bad_seconds, check, measured, missing_with_values, of_speeds, random_second, stream_bytes,
+    bad_seconds, check, measured, missing_with_values, of_speeds, random_seconds, stream_bytes,
     Lanes, PRINTED_PLAN,
 };
 use crate::random::Random;
 use oracle::second::Second;
-use oracle::stream::StreamLanes;
+use oracle::stream::StreamAnswer;
 use oracle::writer::WriteAnswer;
 use oracle::{Plan, Refusal};
 
@@ -159,7 +159,7 @@ fn the_first_bad_second_is_the_place_of_3() {
 #[test]
 fn a_tail_is_trimmed_by_handing_over_shorter_lanes() {
     let mut random = Random::seeded(7);
-    let seconds: Vec<Second> = (0..30).map(|_| random_second(&mut random, true)).collect();
+    let seconds = random_seconds(&mut random, 30, true);
     let whole = stream_of(&PRINTED_PLAN, &seconds);
     for kept in 0..=seconds.len() {
         let trimmed = stream_of(&PRINTED_PLAN, &seconds[..kept]);
@@ -173,21 +173,14 @@ fn a_tail_is_trimmed_by_handing_over_shorter_lanes() {
 fn written_then_read_then_written() {
     let mut random = Random::seeded(8);
     for round in 0..300 {
-        let count = random.between(0, 40) as usize;
-        let seconds: Vec<Second> = (0..count)
-            .map(|_| random_second(&mut random, true))
-            .collect();
+        let seconds = random_seconds(&mut random, 40, true);
         let stream = stream_of(&PRINTED_PLAN, &seconds);
-        let mut lanes = Lanes::of(&vec![missing_with_values(); count]);
-        let mut lent = StreamLanes {
-            states: &mut lanes.states,
-            speeds: &mut lanes.speeds,
-            altitudes: &mut lanes.altitudes,
-            co2: &mut lanes.co2,
-            nox: &mut lanes.nox,
+        let mut lanes = Lanes::of(&vec![missing_with_values(); seconds.len()]);
+        let expected = StreamAnswer {
+            plan: PRINTED_PLAN,
+            seconds: seconds.len(),
         };
-        let answer = read(&stream, &mut lent).expect("readable");
-        assert_eq!((answer.plan, answer.seconds), (PRINTED_PLAN, count));
+        assert_eq!(read(&stream, &mut lanes.lent()), Ok(expected));
         let zeroed = |second: &Second| match second.state {
             2 => Second::missing(),
             _ => *second,
