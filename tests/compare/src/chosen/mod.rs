@@ -36,6 +36,7 @@ pub fn small() -> Vec<Named> {
     calls::add(&mut all, &mut random);
     refusals::add(&mut all);
     trips::add(&mut all, &mut random);
+    // Last, so that what tells the readings of the other calls stays theirs.
     writes::add(&mut all);
     all.cases
 }

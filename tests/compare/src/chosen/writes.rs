@@ -3,6 +3,7 @@
 use oracle::second::Second;
 use oracle::Plan;
 
+use super::refusals::add_writes;
 use super::streams::{plans_at_ends, second, seconds_at_ends, PLAN};
 use super::Chosen;
 use crate::case::{Case, WriteInput};
@@ -26,6 +27,7 @@ pub fn add(all: &mut Chosen) {
     tails(all);
     ranges(all);
     states(all);
+    add_writes(all);
 }
 
 fn write(all: &mut Chosen, about: &str, plan: Plan, seconds: &[Second], places: usize) {
