@@ -10,6 +10,7 @@ mod stream;
 mod sweep;
 mod timing;
 mod trip;
+mod writer;
 
 fn main() {
     println!(
@@ -19,6 +20,7 @@ fn main() {
     mass::bench();
     let growths = [
         stream::bench(),
+        writer::bench(),
         sweep::bench(),
         percentile::bench(),
         trip::bench(),

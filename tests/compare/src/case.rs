@@ -3,11 +3,12 @@
 use library::probe::WindowProbe;
 use library::{
     AccelerationAnswer, Bin, Class, ItemAnswer, MassAnswer, PercentileAnswer, ReadAnswer,
-    SweepAnswer, SweepState, Tally, TripAnswer,
+    SweepAnswer, SweepState, Tally, TripAnswer, WriteAnswer,
 };
-use oracle::{dynamics, item, mass, stream, trip, windows, Plan, Refusal, Rules};
+use oracle::numbers::ACCEPTED;
+use oracle::{dynamics, item, mass, stream, trip, windows, writer, Plan, Refusal, Rules};
 
-use crate::lanes::{answer_by_paper, plan_of, Lanes, Lent};
+use crate::lanes::{answer_by_paper, plan_of, Buffer, Lanes, Lent};
 use crate::program;
 use crate::streams;
 
@@ -42,6 +43,15 @@ pub struct TripInput {
     pub printed: bool,
 }
 
+/// What a call of the writer takes.
+#[derive(Clone, Debug)]
+pub struct WriteInput {
+    pub plan: Plan,
+    pub trip: Lanes,
+    /// Of the buffer.
+    pub places: usize,
+}
+
 /// A call.
 #[derive(Clone, Debug)]
 pub enum Case {
@@ -58,6 +68,7 @@ pub enum Case {
         length: usize,
         places: [usize; 5],
     },
+    Write(WriteInput),
     Sweep(SweepInput),
     D {
         trip: Lanes,
@@ -90,6 +101,7 @@ pub enum Answer {
     Mass(MassAnswer, MassAnswer),
     Item(ItemAnswer),
     Read(ReadAnswer, Lanes),
+    Write(WriteAnswer, Buffer),
     Sweep(SweepAnswer, Vec<u16>),
     D(AccelerationAnswer),
     Percentile(PercentileAnswer, Vec<u32>),
@@ -126,6 +138,7 @@ impl Case {
                 let answer = fed_to_library(bytes.chunks(*length), &mut lanes);
                 Answer::Read(answer, lanes)
             }
+            Case::Write(input) => write_by_library(input),
             Case::Sweep(input) => {
                 let mut ends = vec![GUARD_16; input.places];
                 let (state, budget) = (input.state, input.budget);
@@ -167,6 +180,7 @@ impl Case {
                 let read = read.map(|found| (found.plan, found.seconds));
                 Answer::Read(answer_by_paper(read), lanes)
             }
+            Case::Write(input) => write_by_paper(rules, input),
             Case::Sweep(input) => sweep_by_paper(rules, input),
             Case::D { trip, index } => {
                 let found = dynamics::d_of_second(rules, trip.trip_on_paper(), *index);
@@ -280,6 +294,25 @@ fn item_by_paper(rules: &Rules, bytes: &[u8]) -> ItemAnswer {
         }
     }
     answer
+}
+
+fn write_by_library(input: &WriteInput) -> Answer {
+    let mut buffer = Buffer::guarded(input.places);
+    let answer = library::write(plan_of(&input.plan), input.trip.trip(), buffer.lent());
+    Answer::Write(answer, buffer)
+}
+
+fn write_by_paper(rules: &Rules, input: &WriteInput) -> Answer {
+    let mut buffer = Buffer::guarded(input.places);
+    let trip = input.trip.trip_on_paper();
+    let found = writer::write(rules, &input.plan, trip, buffer.lent());
+    let refusal = found.refusal.unwrap_or(Refusal::new(ACCEPTED));
+    let answer = WriteAnswer {
+        refusal: refusal.number,
+        place: refusal.place,
+        bytes: found.bytes,
+    };
+    Answer::Write(answer, buffer)
 }
 
 fn sweep_by_paper(rules: &Rules, input: &SweepInput) -> Answer {

@@ -46,6 +46,15 @@ pub fn set(release: u32) -> Option<Vec<Frozen>> {
     Some(set)
 }
 
+/// The calls that a build of a release is held to: those of its set, and those chosen of a call that
+/// came after it.
+pub fn calls(release: u32) -> Vec<Named> {
+    let set = set(release).unwrap_or_default();
+    let gained = chosen::since(&set);
+    let named = |Frozen { name, case, .. }| Named { name, case };
+    set.into_iter().map(named).chain(gained).collect()
+}
+
 /// A block of lines: `case NAME`, the call, `gives`, the answer.
 fn parse(block: &str) -> Option<Frozen> {
     let lines: Vec<&str> = block.lines().collect();
@@ -85,6 +94,11 @@ pub fn compare(account: &mut Account) {
              otherwise than release {release} did; docs/PROVING.md tells how a release is added."
         );
     }
+    let gained = chosen::since(&own);
+    if !gained.is_empty() {
+        let name = format!("release {release}, calls that it gained after it was frozen");
+        account.compare(&name, |c| by_both(c, &gained));
+    }
     for earlier in 1..=release {
         let name = format!("release {earlier}, what was frozen of it, by the independent program");
         account.compare(&name, |c| by_paper(c, earlier));
@@ -95,6 +109,12 @@ fn by_library(comparison: &mut Comparison, set: &[Frozen]) {
     for frozen in set {
         let got = frozen.case.by_library().lines();
         comparison.same(&got, &frozen.answer, || frozen.name.clone());
+    }
+}
+
+fn by_both(comparison: &mut Comparison, calls: &[Named]) {
+    for named in calls {
+        comparison.case(&named.case);
     }
 }
 
@@ -124,9 +144,7 @@ pub fn freeze(release: u32, rules: &Rules) -> i32 {
     }
     let borders = chosen::on_borders();
     let mut small = telling::that_tell(rules, chosen::small());
-    for (number, named) in small.iter_mut().enumerate() {
-        named.name = format!("{}, {}", named.name, number + 1);
-    }
+    chosen::number(&mut small);
     fs::create_dir_all(&folder).expect("the folder can be made");
     for (file, set) in FILES.iter().zip([&small, &borders]) {
         let blocks: String = set.iter().map(|named| block(named, rules)).collect();

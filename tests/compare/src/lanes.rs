@@ -1,4 +1,4 @@
-//! The five lanes of a trip and the four lent ones, for both sides.
+//! The five lanes of a trip, the four lent ones and the buffer of a stream, for both sides.
 
 use oracle::second::{Second, TripLanes};
 use oracle::stream::StreamLanes;
@@ -63,6 +63,17 @@ impl Lanes {
         }
     }
 
+    /// The first seconds handed to the library: a tail is trimmed by handing over less.
+    pub fn front(&self, seconds: usize) -> library::Trip<'_> {
+        library::Trip {
+            states: &self.states[..seconds],
+            speeds: &self.speeds[..seconds],
+            altitudes: &self.altitudes[..seconds],
+            co2: &self.co2[..seconds],
+            nox: &self.nox[..seconds],
+        }
+    }
+
     /// Lent to the independent program.
     pub fn lent_on_paper(&mut self) -> StreamLanes<'_> {
         StreamLanes {
@@ -123,6 +134,45 @@ impl Lent {
             ends: &mut self.ends,
             ranks: &mut self.ranks,
         }
+    }
+}
+
+/// What the caller left in the places of a buffer and beside them.
+const GUARD: u8 = 0xa5;
+
+/// How many guarded bytes lie on either side of a buffer: more than an item has.
+const BESIDE: usize = 32;
+
+/// A buffer lent to the writer, between bytes that no call may touch.
+#[derive(Clone, Debug, PartialEq, Eq)]
+pub struct Buffer(Vec<u8>);
+
+impl Buffer {
+    pub fn guarded(places: usize) -> Buffer {
+        Buffer(vec![GUARD; BESIDE + places + BESIDE])
+    }
+
+    /// A buffer of so many places that holds a stream, and behind it what the caller left.
+    pub fn holding(stream: &[u8], places: usize) -> Buffer {
+        let mut buffer = Buffer::guarded(places);
+        buffer.lent()[..stream.len()].copy_from_slice(stream);
+        buffer
+    }
+
+    /// Lent to either side.
+    pub fn lent(&mut self) -> &mut [u8] {
+        let end = self.0.len() - BESIDE;
+        &mut self.0[BESIDE..end]
+    }
+
+    /// The bytes that were written into its front; none where it has not so many places.
+    pub fn front(&mut self, bytes: usize) -> &[u8] {
+        self.lent().get(..bytes).unwrap_or_default()
+    }
+
+    /// What lies in it and beside it.
+    pub fn bytes(&self) -> &[u8] {
+        &self.0
     }
 }
 

@@ -4,9 +4,10 @@
 //!     compare --freeze
 //!     compare --readings
 //!
-//! The build is held to the frozen set of the release that it names, the set is shown to tell every
-//! wrong reading, and then both sides are compared on many inputs. `--freeze` makes the set of a new
-//! release, `--readings` prints the wrong readings with what tells each.
+//! The build is held to the frozen set of the release that it names, and to chosen inputs of the calls
+//! that came after it; these are shown to tell every wrong reading, and then both sides are compared
+//! on many inputs. `--freeze` makes the set of a new release, `--readings` prints the wrong readings
+//! with what tells each.
 //!
 //! Each comparison prints how many inputs it tried and is one test; a difference is printed with
 //! its input, and the seed that brings it back. A soak goes on with seeds of its own, and runs the
@@ -35,6 +36,7 @@ mod sweep;
 mod telling;
 mod trip;
 mod trips;
+mod writer;
 mod written;
 
 use account::Account;
@@ -86,6 +88,7 @@ fn compare_library(account: &mut Account) {
     mass::compare(account);
     stream::compare(account);
     blocks::compare(account);
+    writer::compare(account);
     bytes::compare(account);
     sweep::compare(account);
     dynamics::compare(account);

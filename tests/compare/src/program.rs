@@ -4,7 +4,10 @@ use std::io::{ErrorKind, Write};
 use std::path::{Path, PathBuf};
 use std::process::{Command, Stdio};
 
+use oracle::numbers::ACCEPTED;
+
 use crate::account::{Account, Comparison};
+use crate::lanes::{plan_of, Buffer, Lanes};
 use crate::random::Random;
 use crate::streams;
 use crate::trips;
@@ -13,6 +16,7 @@ use crate::trips;
 pub struct Amount {
     pub damaged: usize,
     pub realistic: usize,
+    pub written: usize,
     /// Of a full stream every so many-th prefix.
     pub prefix_step: usize,
 }
@@ -20,12 +24,14 @@ pub struct Amount {
 pub const SOME: Amount = Amount {
     damaged: 3_000,
     realistic: 60,
+    written: 300,
     prefix_step: 97,
 };
 
 pub const ALL: Amount = Amount {
     damaged: 60_000,
     realistic: 2_000,
+    written: 6_000,
     prefix_step: 1,
 };
 
@@ -36,6 +42,9 @@ pub fn compare(account: &mut Account, amount: &Amount) {
     });
     account.compare("program, realistic trips by odd blocks", |c| {
         realistic(c, seed, amount.realistic)
+    });
+    account.compare("program, trips that the library wrote", |c| {
+        written(c, seed, amount.written)
     });
     account.compare("program, every prefix of a short stream", |c| {
         let bytes = streams::whole(&mut Random::new(seed ^ 43), 20);
@@ -135,6 +144,29 @@ fn realistic(comparison: &mut Comparison, seed: u64, inputs: usize) {
         let bytes = streams::of_trip(&plan, &seconds);
         let lengths = odd_lengths(&mut random);
         judged(comparison, &bytes, &lengths);
+    }
+}
+
+/// Trips of any character: the program judges the stream that the library wrote as the independent
+/// program judges the lanes.
+fn written(comparison: &mut Comparison, seed: u64, inputs: usize) {
+    let mut random = Random::new(seed ^ 45);
+    for round in 0..inputs {
+        let (plan, seconds) = match round % 10 {
+            0 => trips::realistic(&mut random),
+            _ => {
+                let n = random.below(40) as usize;
+                (trips::plan(&mut random), trips::small(&mut random, n))
+            }
+        };
+        let trip = Lanes::of(&seconds);
+        let mut buffer = Buffer::guarded(streams::of_trip(&plan, &seconds).len());
+        let answer = library::write(plan_of(&plan), trip.trip(), buffer.lent());
+        let got = (answer.refusal, printed(buffer.front(answer.bytes)));
+        let judged = oracle::report::judge_lanes(&comparison.rules, &plan, trip.trip_on_paper());
+        comparison.same(got, (ACCEPTED, judged), || {
+            format!("{} seconds written, {plan:?}", seconds.len())
+        });
     }
 }
 

@@ -11,26 +11,31 @@ use crate::streams;
 /// More seconds than one call takes.
 const TOO_MANY: usize = 8_193;
 
+/// Takes a stream, with the lengths of the lanes that it is read into.
+pub type Take<'a> = &'a mut dyn FnMut(&[u8], [usize; 5]);
+
+/// Each comparison of streams, and how its streams are made from a seed.
+pub const STREAMS: [(&str, fn(u64, Take)); 5] = [
+    ("stream, damaged, spliced and mixed up", damaged),
+    (
+        "stream, every change of one byte of a short one",
+        every_byte,
+    ),
+    ("stream, two faults in one item and in two", two_faults),
+    ("stream, lanes of unequal and short lengths", short_lanes),
+    ("stream, more seconds than a call takes", too_many),
+];
+
 pub fn compare(account: &mut Account) {
     let seed = account.seed;
     account.compare("item, any bytes", |c| any_bytes(c, seed));
-    account.compare("stream, damaged, spliced and mixed up", |c| {
-        damaged(c, seed)
-    });
-    account.compare("stream, every change of one byte of a short one", |c| {
-        every_byte(c, seed)
-    });
-    account.compare("stream, two faults in one item and in two", |c| {
-        two_faults(c, seed)
-    });
-    account.compare("stream, lanes of unequal and short lengths", |c| {
-        short_lanes(c, seed)
-    });
+    for (name, streams) in STREAMS {
+        account.compare(name, |c| {
+            streams(seed, &mut |bytes, places| read(c, bytes, places))
+        });
+    }
     account.compare("stream, power lost at each byte of three full ones", |c| {
         every_prefix(c, seed)
-    });
-    account.compare("stream, more seconds than a call takes", |c| {
-        too_many(c, seed)
     });
 }
 
@@ -72,7 +77,7 @@ fn any_bytes(comparison: &mut Comparison, seed: u64) {
     }
 }
 
-fn damaged(comparison: &mut Comparison, seed: u64) {
+fn damaged(seed: u64, take: Take) {
     let mut random = Random::new(seed ^ 22);
     let mut other = streams::whole(&mut random, 5);
     for _ in 0..200_000 {
@@ -84,14 +89,14 @@ fn damaged(comparison: &mut Comparison, seed: u64) {
         for _ in 0..random.below(3) {
             streams::damaged(&mut random, &mut bytes, &other);
         }
-        read(comparison, &bytes, [14; 5]);
+        take(&bytes, [14; 5]);
         if random.below(16) == 0 {
             other = bytes;
         }
     }
 }
 
-fn every_byte(comparison: &mut Comparison, seed: u64) {
+fn every_byte(seed: u64, take: Take) {
     let mut random = Random::new(seed ^ 23);
     let mut bytes = streams::plan(&mut random, 0);
     for kind in [streams::MEASURED, streams::MISSING, streams::CHECK] {
@@ -101,14 +106,14 @@ fn every_byte(comparison: &mut Comparison, seed: u64) {
         let kept = bytes[at];
         for value in 0..=u8::MAX {
             bytes[at] = value;
-            read(comparison, &bytes, [3; 5]);
+            take(&bytes, [3; 5]);
         }
         bytes[at] = kept;
     }
 }
 
 /// Each pair of faults, in one item and in two, decides the order.
-fn two_faults(comparison: &mut Comparison, seed: u64) {
+fn two_faults(seed: u64, take: Take) {
     let mut random = Random::new(seed ^ 24);
     for _ in 0..30_000 {
         let mut bytes = Vec::new();
@@ -130,25 +135,29 @@ fn two_faults(comparison: &mut Comparison, seed: u64) {
                 .len()
                 .saturating_sub(random.below(3) as usize * random.below(9) as usize),
         );
-        read(comparison, &bytes, [random.below(4) as usize; 5]);
+        take(&bytes, [random.below(4) as usize; 5]);
     }
 }
 
-fn short_lanes(comparison: &mut Comparison, seed: u64) {
+fn short_lanes(seed: u64, take: Take) {
     let mut random = Random::new(seed ^ 25);
     for _ in 0..30_000 {
         let seconds = random.below(6) as usize;
         let bytes = streams::whole(&mut random, seconds);
         let lengths = [0; 5].map(|_: usize| random.below(8) as usize);
-        read(comparison, &bytes, lengths);
+        take(&bytes, lengths);
     }
 }
 
-/// Three streams of 8,192 seconds, each cut at every byte.
-fn every_prefix(comparison: &mut Comparison, seed: u64) {
+/// Three streams of as many seconds as a call takes.
+pub fn full(seed: u64) -> [Vec<u8>; 3] {
     let mut random = Random::new(seed ^ 26);
-    for _ in 0..3 {
-        let bytes = streams::whole(&mut random, TOO_MANY - 1);
+    [0; 3].map(|_| streams::whole(&mut random, TOO_MANY - 1))
+}
+
+/// Full streams, each cut at every byte.
+fn every_prefix(comparison: &mut Comparison, seed: u64) {
+    for bytes in full(seed) {
         read(comparison, &bytes, [TOO_MANY - 1; 5]);
         let mut ours = Lanes::guarded([TOO_MANY - 1; 5]);
         let untouched = ours.clone();
@@ -189,7 +198,7 @@ fn prefix(
     });
 }
 
-fn too_many(comparison: &mut Comparison, seed: u64) {
+fn too_many(seed: u64, take: Take) {
     let mut random = Random::new(seed ^ 27);
     for (last, places) in [
         (0, TOO_MANY),
@@ -200,8 +209,8 @@ fn too_many(comparison: &mut Comparison, seed: u64) {
     ] {
         let mut bytes = streams::whole(&mut random, TOO_MANY - 1);
         bytes.extend(streams::second(&mut random, streams::MEASURED, last));
-        read(comparison, &bytes, [places; 5]);
+        take(&bytes, [places; 5]);
         bytes.pop();
-        read(comparison, &bytes, [places; 5]);
+        take(&bytes, [places; 5]);
     }
 }

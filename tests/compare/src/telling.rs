@@ -1,5 +1,6 @@
 //! What the inputs can tell: each wrong reading of the paper is answered otherwise than the right
-//! one for at least one input of the frozen set, which the product answers too.
+//! one for at least one input that the build is held to: of the frozen set, or chosen for a call that
+//! came after it.
 
 use std::sync::atomic::{AtomicUsize, Ordering};
 use std::thread;
@@ -26,6 +27,7 @@ struct Tried {
 fn cost(case: &Case) -> usize {
     match case {
         Case::Trip(input) => 100 * input.trip.states.len() + 1,
+        Case::Write(input) => input.trip.states.len(),
         Case::D { trip, .. } => trip.states.len(),
         Case::Sweep(input) => input.co2.len(),
         Case::Percentile { products, .. } => products.len(),
@@ -43,15 +45,14 @@ fn unprinted(mut case: Case) -> Case {
     case
 }
 
-/// The calls of the frozen set, cheap ones first.
-fn frozen_calls(rules: &Rules) -> Vec<Tried> {
-    let set = frozen::set(library::meaning()).unwrap_or_default();
-    let mut calls: Vec<Tried> = set
+/// The calls that the build is held to, cheap ones first.
+fn held_calls(rules: &Rules) -> Vec<Tried> {
+    let mut calls: Vec<Tried> = frozen::calls(library::meaning())
         .into_iter()
-        .map(|frozen| {
-            let case = unprinted(frozen.case);
+        .map(|named| {
+            let case = unprinted(named.case);
             Tried {
-                name: frozen.name,
+                name: named.name,
                 right: case.by_paper(rules),
                 cost: cost(&case),
                 case,
@@ -88,13 +89,13 @@ fn ground(wrong: &Wrong) -> Option<&'static str> {
 
 pub fn compare(account: &mut Account) {
     account.compare(
-        "wrong readings, each told by an input of the frozen set",
+        "wrong readings, each told by an input that the build is held to",
         tell,
     );
 }
 
 fn tell(comparison: &mut Comparison) {
-    let calls = frozen_calls(&comparison.rules);
+    let calls = held_calls(&comparison.rules);
     let table = readings(&comparison.rules);
     let told = each_told(&table, &calls);
     let in_words = |told: bool| if told { "told" } else { "not to be told" };
@@ -117,7 +118,7 @@ fn tell(comparison: &mut Comparison) {
 
 /// Prints the table: each wrong reading with its sentence, and the input that tells it.
 pub fn print(rules: &Rules) {
-    let calls = frozen_calls(rules);
+    let calls = held_calls(rules);
     let table = readings(rules);
     for (wrong, told) in table.iter().zip(each_told(&table, &calls)) {
         let told = match (told, ground(wrong)) {

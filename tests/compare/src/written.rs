@@ -3,12 +3,12 @@
 use library::probe::WindowProbe;
 use library::{
     AccelerationAnswer, ItemAnswer, MassAnswer, PercentileAnswer, ReadAnswer, SweepAnswer,
-    SweepState, TripAnswer,
+    SweepState, TripAnswer, WriteAnswer,
 };
 use oracle::Plan;
 
-use crate::case::{Answer, Case, MassInput, SweepInput, TripInput};
-use crate::lanes::{Lanes, Lent};
+use crate::case::{Answer, Case, MassInput, SweepInput, TripInput, WriteInput};
+use crate::lanes::{Buffer, Lanes, Lent};
 use crate::runs::{answer_text, lane_of, text_of};
 
 /// A word, and a lane in runs; an empty lane is the word alone.
@@ -68,6 +68,7 @@ impl Case {
                 format!("length {length}"),
                 format!("places {}", numbers(places)),
             ],
+            Case::Write(input) => write_lines(input),
             Case::Sweep(input) => sweep_lines(input),
             Case::D { trip, index } => {
                 let mut lines = vec!["call d".to_string(), format!("index {index}")];
@@ -122,6 +123,11 @@ impl Case {
                 length: of("length")?.parse().ok()?,
                 places: array_of(of("places")?)?,
             },
+            "write" => Case::Write(WriteInput {
+                plan: plan_of_words(of("plan")?)?,
+                trip: lanes()?,
+                places: of("places")?.parse().ok()?,
+            }),
             "sweep" => {
                 let [taken, dropped, mass, moves] = array_of(of("state")?)?;
                 Case::Sweep(SweepInput {
@@ -178,6 +184,19 @@ fn bytes_line(bytes: &[u8]) -> String {
     lane_line("bytes", text_of(bytes))
 }
 
+/// A plan and the lanes of a trip, which a call takes.
+fn plan_and_lanes_lines(call: &str, plan: &Plan, trip: &Lanes) -> Vec<String> {
+    let mut lines = vec![format!("call {call}"), format!("plan {}", plan_words(plan))];
+    lines.extend(lanes_lines(trip));
+    lines
+}
+
+fn write_lines(input: &WriteInput) -> Vec<String> {
+    let mut lines = plan_and_lanes_lines("write", &input.plan, &input.trip);
+    lines.push(format!("places {}", input.places));
+    lines
+}
+
 fn sweep_lines(input: &SweepInput) -> Vec<String> {
     vec![
         "call sweep".to_string(),
@@ -194,11 +213,7 @@ fn state_words(state: &SweepState) -> String {
 }
 
 fn trip_lines(input: &TripInput) -> Vec<String> {
-    let mut lines = vec![
-        "call trip".to_string(),
-        format!("plan {}", plan_words(&input.plan)),
-    ];
-    lines.extend(lanes_lines(&input.trip));
+    let mut lines = plan_and_lanes_lines("trip", &input.plan, &input.trip);
     lines.push(format!("places {}", numbers(&input.places)));
     let printed = if input.printed { "too" } else { "not" };
     lines.push(format!("printed {printed}"));
@@ -245,6 +260,7 @@ impl Answer {
             Answer::Mass(co2, nox) => vec![mass_line("co2", co2), mass_line("nox", nox)],
             Answer::Item(answer) => item_lines(answer),
             Answer::Read(answer, lanes) => read_lines(answer, lanes),
+            Answer::Write(answer, buffer) => written_lines(answer, buffer),
             Answer::Sweep(answer, ends) => swept_lines(answer, ends),
             Answer::D(answer) => vec![d_line(answer)],
             Answer::Percentile(answer, ranks) => percentile_lines(answer, ranks),
@@ -296,6 +312,14 @@ fn read_lines(answer: &ReadAnswer, lanes: &Lanes) -> Vec<String> {
         lane_line("altitudes", answer_text(&lanes.altitudes)),
         lane_line("co2", answer_text(&lanes.co2)),
         lane_line("nox", answer_text(&lanes.nox)),
+    ]
+}
+
+fn written_lines(answer: &WriteAnswer, buffer: &Buffer) -> Vec<String> {
+    vec![
+        refusal_words(answer.refusal, answer.place),
+        format!("written {}", answer.bytes),
+        lane_line("buffer", answer_text(buffer.bytes())),
     ]
 }
 
@@ -364,4 +388,20 @@ fn evaluated_lines(answer: &TripAnswer, lent: &Lent, printed: &Option<String>) -
 
 fn printed_lines(text: &str) -> Vec<String> {
     text.lines().map(|line| format!("| {line}")).collect()
+}
+
+#[cfg(test)]
+mod tests {
+    use super::Case;
+    use crate::chosen;
+
+    #[test]
+    fn each_chosen_call_there_and_back() {
+        for named in chosen::small() {
+            let lines = named.case.lines();
+            let words: Vec<&str> = lines.iter().map(String::as_str).collect();
+            let back = Case::of_lines(&words).map(|case| case.lines());
+            assert_eq!(back.as_ref(), Some(&lines), "{}", named.name);
+        }
+    }
 }

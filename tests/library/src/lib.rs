@@ -9,6 +9,7 @@ mod raw;
 pub use raw::{
     bytes_of_plan, AccelerationAnswer, Bin, Class, Fed, ItemAnswer, MassAnswer, PercentileAnswer,
     Plan, ReadAnswer, Reader, ReaderBytes, Setting, SweepAnswer, SweepState, Tally, TripAnswer,
+    WriteAnswer,
 };
 
 /// The release of the meaning of "valid" by which this build answers.
@@ -131,6 +132,29 @@ pub struct Trip<'a> {
     pub altitudes: &'a [i32],
     pub co2: &'a [u32],
     pub nox: &'a [u32],
+}
+
+/// A plan and the lanes of a trip into a stream.
+pub fn write(plan: Plan, trip: Trip, stream: &mut [u8]) -> WriteAnswer {
+    // Safety: each pointer and the count after it are those of one slice, and the stream overlaps
+    // no lane.
+    unsafe {
+        raw::pb_write(
+            plan,
+            trip.states.as_ptr(),
+            trip.states.len(),
+            trip.speeds.as_ptr(),
+            trip.speeds.len(),
+            trip.altitudes.as_ptr(),
+            trip.altitudes.len(),
+            trip.co2.as_ptr(),
+            trip.co2.len(),
+            trip.nox.as_ptr(),
+            trip.nox.len(),
+            stream.as_mut_ptr(),
+            stream.len(),
+        )
+    }
 }
 
 /// D of one second, by index from 0.

@@ -59,6 +59,15 @@ pub struct ReadAnswer {
     pub seconds: usize,
 }
 
+/// `pb_write_answer`
+#[repr(C)]
+#[derive(Clone, Copy, Debug, Default, PartialEq, Eq)]
+pub struct WriteAnswer {
+    pub refusal: u8,
+    pub place: usize,
+    pub bytes: usize,
+}
+
 /// `pb_reader`
 #[repr(C)]
 #[derive(Clone, Copy, Debug, Default, PartialEq, Eq)]
@@ -236,6 +245,21 @@ extern "C" {
         nox_places: usize,
     ) -> Fed;
     pub fn pb_end(reader: ReaderBytes) -> ReadAnswer;
+    pub fn pb_write(
+        plan: Plan,
+        states: *const u8,
+        states_count: usize,
+        speeds: *const u16,
+        speeds_count: usize,
+        altitudes: *const i32,
+        altitudes_count: usize,
+        co2: *const u32,
+        co2_count: usize,
+        nox: *const u32,
+        nox_count: usize,
+        stream: *mut u8,
+        stream_places: usize,
+    ) -> WriteAnswer;
     pub fn pb_sweep(
         reference: u32,
         co2: *const u32,

@@ -22,6 +22,7 @@ pub mod second;
 pub mod stream;
 pub mod trip;
 pub mod windows;
+pub mod writer;
 pub mod wrong;
 
 pub use numbers::{Plan, Refusal};

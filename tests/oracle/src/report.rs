@@ -1,6 +1,6 @@
 //! "The printed case": what the program prints.
 
-use crate::numbers::Refusal;
+use crate::numbers::{Plan, Refusal};
 use crate::rules::{Rules, Slip};
 use crate::second::TripLanes;
 use crate::stream::{read, StreamLanes};
@@ -64,19 +64,34 @@ pub fn evaluate_stream(rules: &Rules, bytes: &[u8]) -> Result<TripAnswer, Refusa
         co2: &co2[..answer.seconds],
         nox: &nox[..answer.seconds],
     };
+    evaluate_lanes(rules, &answer.plan, trip)
+}
+
+/// The answer to a plan and lanes, with the program's own lanes lent.
+fn evaluate_lanes(rules: &Rules, plan: &Plan, trip: TripLanes) -> Result<TripAnswer, Refusal> {
     let mut lent = LentLanes {
         kept_speeds: &mut [0; PLACES],
         kept_co2: &mut [0; PLACES],
         ends: &mut [0; PLACES],
         ranks: &mut [0; PLACES],
     };
-    evaluate(rules, &answer.plan, trip, &mut lent)
+    evaluate(rules, plan, trip, &mut lent)
+}
+
+/// What is printed for an answer or a refusal.
+fn printed(rules: &Rules, answer: Result<TripAnswer, Refusal>) -> String {
+    match answer {
+        Ok(answer) => report(rules, &answer),
+        Err(refusal) => report_refusal(rules, &refusal),
+    }
 }
 
 /// What the program prints for a stream.
 pub fn judge(rules: &Rules, bytes: &[u8]) -> String {
-    match evaluate_stream(rules, bytes) {
-        Ok(answer) => report(rules, &answer),
-        Err(refusal) => report_refusal(rules, &refusal),
-    }
+    printed(rules, evaluate_stream(rules, bytes))
+}
+
+/// What it prints for the stream of a plan and lanes.
+pub fn judge_lanes(rules: &Rules, plan: &Plan, trip: TripLanes) -> String {
+    printed(rules, evaluate_lanes(rules, plan, trip))
 }

@@ -17,6 +17,7 @@ pub struct Rules {
     pub lanes: Lanes,
     pub orders: Orders,
     pub stream: StreamRules,
+    pub writer: WriterRules,
     pub mass: MassRules,
     pub windows: WindowRules,
     pub dynamics: DynamicsRules,
@@ -26,11 +27,19 @@ pub struct Rules {
     /// A sentence misread otherwise than by a number, an end, an order or a choice; none in a
     /// release.
     pub slip: Option<Slip>,
+    /// What the writer alone reads by, where it misreads what it shares with the other calls; none
+    /// in a release.
+    pub writer_alone: Option<Box<Rules>>,
 }
 
 impl Rules {
     pub fn slips(&self, slip: Slip) -> bool {
         self.slip == Some(slip)
+    }
+
+    /// What the writer reads by.
+    pub fn of_the_writer(&self) -> &Rules {
+        self.writer_alone.as_deref().unwrap_or(self)
     }
 }
 
@@ -57,6 +66,7 @@ pub struct Limits {
     pub d: Bound<i128>,
     pub sweep: Bound<i128>,
     pub percentile: Bound<i128>,
+    pub writer: Bound<i128>,
 }
 
 /// What each state says of a second.
@@ -111,6 +121,7 @@ pub struct Orders {
     pub mass: Order,
     pub item: Order,
     pub d: Order,
+    pub writer: Order,
 }
 
 /// A value in an item's body.
@@ -156,6 +167,15 @@ pub struct StreamRules {
     pub empty_stream: u8,
     /// "an empty slice is 7"
     pub empty_slice: u8,
+}
+
+/// "Write streams as well as read them" (L1); the items are those of the table of kinds.
+#[derive(Clone, Debug)]
+pub struct WriterRules {
+    /// What a second of each state is written as.
+    pub written_as: Vec<(u8, Holds)>,
+    /// How many bytes the buffer may lack: "6 for a short buffer".
+    pub bytes_spared: i128,
 }
 
 /// A kind of reading.
@@ -396,6 +416,20 @@ pub enum Slip {
     PlanAloneRefused,
     PlaceBehindTheItem,
     PlaceByItem,
+    PlanWrittenLast,
+    MissingSecondsAtTheEndLeftOut,
+    StandingSecondsAtTheEndLeftOut,
+    NoSecondAtAllRefused,
+    RoomForTheValuesOfEverySecond,
+    RestOfTheBufferCleared,
+    ByteBehindTheStreamWritten,
+    BytesWithoutThePlan,
+    ItemsForBytes,
+    BytesAskedForGivenWith6,
+    ShortBufferFilled,
+    SecondsBeforeABadOneWritten,
+    OffsetOfABadSecond,
+    PlaceOfAShortBuffer,
     NotANumberIsZero,
     NegativeZeroReadingRefused,
     NegativeZeroFlowRefused,
@@ -514,6 +548,7 @@ fn release_1() -> Rules {
             d: at_most(8_192),
             sweep: at_most(8_192),
             percentile: at_most(8_192),
+            writer: at_most(8_192),
         },
         states: States {
             known: &[MEASURED, MISSING, CHECK],
@@ -536,11 +571,21 @@ fn release_1() -> Rules {
             mass: order(&[9, 10]),
             item: order(&[8, 7, 5, 3]),
             d: order(&[1, 2, 3, 4]),
+            // "Refusals: 5, 1, 2, 3, then 6 for a short buffer"
+            writer: order(&[5, 1, 2, 3, 6]),
         },
         stream: StreamRules {
             kinds: kinds(),
             empty_stream: PLAN_ABSENT_LATE_OR_REPEATED,
             empty_slice: ENDS_INSIDE_ITEM,
+        },
+        writer: WriterRules {
+            written_as: vec![
+                (MEASURED, Holds::Measured),
+                (MISSING, Holds::Missing),
+                (CHECK, Holds::Check),
+            ],
+            bytes_spared: 0,
         },
         mass: mass(),
         windows: windows(),
@@ -561,6 +606,7 @@ fn release_1() -> Rules {
             class_line: [0, 1],
         },
         slip: None,
+        writer_alone: None,
     }
 }
 

@@ -8,7 +8,7 @@ use oracle::second::Second;
 use oracle::{windows, Plan, Rules};
 
 use crate::account::{Account, Comparison};
-use crate::case::{Case, MassInput, SweepInput, TripInput};
+use crate::case::{Case, MassInput, SweepInput, TripInput, WriteInput};
 use crate::lanes::{plan_of, Lanes};
 use crate::random::Random;
 
@@ -154,7 +154,11 @@ fn trip(random: &mut Random, e: u32) -> Lanes {
     Lanes::of(&seconds.collect::<Vec<Second>>())
 }
 
-/// Plans at the ends of their ranges and between them: with windows, inside and not, and without.
+/// More bytes than the stream of these seconds has.
+const ROOM: usize = 400;
+
+/// Plans at the ends of their ranges and between them: with windows, inside and not, and without;
+/// and each written.
 fn plans(comparison: &mut Comparison, seed: u64) {
     let mut random = Random::new(seed ^ 44);
     let e = 150_000;
@@ -168,6 +172,11 @@ fn plans(comparison: &mut Comparison, seed: u64) {
                 trip: trip.clone(),
                 places: [trip.states.len(); 4],
                 printed: false,
+            }));
+            comparison.case(&Case::Write(WriteInput {
+                plan: plan_in(&bytes),
+                trip: trip.clone(),
+                places: ROOM,
             }));
         });
     }

@@ -1,16 +1,23 @@
 //! Inputs chosen so that each sentence of the paper shows in an answer: the ends of every range,
 //! pairs of refusals, every kind of item, sweeps cut and resumed, and figures on each border.
 //!
-//! A frozen set is made of those that tell a wrong reading, and of the pairs of `borders`.
+//! A frozen set is made of those that tell a wrong reading, and of the pairs of `borders`. Of a call
+//! that came after the set was frozen all of them are compared, until the next set has it.
 
 mod calls;
 mod masses;
 mod refusals;
 mod streams;
 mod trips;
+mod writes;
+
+use std::mem::discriminant;
+
+pub use streams::{plans_at_ends, seconds_at_ends, PLAN};
 
 use crate::borders::{pairs, Pair, Trip};
 use crate::case::{Case, TripInput};
+use crate::frozen::Frozen;
 use crate::lanes::Lanes;
 use crate::random::Random;
 
@@ -29,7 +36,26 @@ pub fn small() -> Vec<Named> {
     calls::add(&mut all, &mut random);
     refusals::add(&mut all);
     trips::add(&mut all, &mut random);
+    // Last, so that what tells the readings of the other calls stays theirs.
+    writes::add(&mut all);
     all.cases
+}
+
+/// Of the small inputs those of a call that a set has none of: the product gained it after the set
+/// was frozen.
+pub fn since(set: &[Frozen]) -> Vec<Named> {
+    let frozen: Vec<_> = set.iter().map(|call| discriminant(&call.case)).collect();
+    let mut gained = small();
+    gained.retain(|named| !frozen.contains(&discriminant(&named.case)));
+    number(&mut gained);
+    gained
+}
+
+/// Gives each of the calls its number behind its name.
+pub fn number(calls: &mut [Named]) {
+    for (number, named) in calls.iter_mut().enumerate() {
+        named.name = format!("{}, {}", named.name, number + 1);
+    }
 }
 
 /// The pairs of trips on either side of each border, as calls.

@@ -5,7 +5,7 @@ use oracle::second::Second;
 use oracle::Plan;
 
 use super::Chosen;
-use crate::case::{Case, SweepInput, TripInput};
+use crate::case::{Case, SweepInput, TripInput, WriteInput};
 use crate::lanes::Lanes;
 
 const LIMIT: usize = 8_192;
@@ -102,13 +102,12 @@ fn evaluate(all: &mut Chosen, plan: Plan, trip: Lanes, places: [usize; 4]) {
     all.add("order of the trip", Case::Trip(input));
 }
 
-/// Each lane one place shorter and one longer; each lent lane one shorter, and as the kept need.
-fn lanes_of_a_trip(all: &mut Chosen) {
-    let good = faulty(false, false, false, false);
-    let n = good.states.len();
+/// Lanes of which one is a place shorter or longer.
+fn differing() -> Vec<Lanes> {
+    let mut all = Vec::new();
     for lane in 0..5 {
         for longer in [false, true] {
-            let mut trip = good.clone();
+            let mut trip = faulty(false, false, false, false);
             match (lane, longer) {
                 (0, false) => drop(trip.states.pop()),
                 (1, false) => drop(trip.speeds.pop()),
@@ -121,9 +120,19 @@ fn lanes_of_a_trip(all: &mut Chosen) {
                 (3, true) => trip.co2.push(1),
                 (_, true) => trip.nox.push(1),
             }
-            evaluate(all, PLAN, trip.clone(), [n + 1; 4]);
-            all.add("order of D", Case::D { trip, index: 2 });
+            all.push(trip);
         }
+    }
+    all
+}
+
+/// Each lane one place shorter and one longer; each lent lane one shorter, and as the kept need.
+fn lanes_of_a_trip(all: &mut Chosen) {
+    let good = faulty(false, false, false, false);
+    let n = good.states.len();
+    for trip in differing() {
+        evaluate(all, PLAN, trip.clone(), [n + 1; 4]);
+        all.add("order of D", Case::D { trip, index: 2 });
     }
     for lane in 0..4 {
         for places in [n - 1, n + 1] {
@@ -223,4 +232,31 @@ fn limits(all: &mut Chosen) {
             },
         );
     }
+}
+
+/// More bytes than the stream of any of these trips has.
+const ROOM: usize = 15 * (LIMIT + 3);
+
+/// Fewer than any has whose seconds are in range.
+const SHORT: usize = 40;
+
+/// The writer's: faults 5, 1, 2, 3, 6; each lane shorter and longer; as many seconds as a call takes.
+pub fn add_writes(all: &mut Chosen) {
+    let mut write = |plan: Plan, trip: Lanes, places: usize| {
+        let input = WriteInput { plan, trip, places };
+        all.add("writer, refusals", Case::Write(input));
+    };
+    for faults in pairs(5) {
+        let trip = faulty(has(faults, 1), has(faults, 2), has(faults, 3), false);
+        let mut plan = PLAN;
+        if has(faults, 0) {
+            plan.upper[1] = 101;
+        }
+        write(plan, trip, if has(faults, 4) { SHORT } else { ROOM });
+    }
+    for trip in differing() {
+        write(PLAN, trip, ROOM);
+    }
+    write(PLAN, Lanes::of(&[MEASURED; LIMIT]), ROOM);
+    write(PLAN, Lanes::of(&[MEASURED; LIMIT + 1]), ROOM);
 }

@@ -7,7 +7,7 @@ use super::Chosen;
 use crate::case::Case;
 use crate::streams::of_trip;
 
-const PLAN: Plan = Plan {
+pub const PLAN: Plan = Plan {
     reference: 70_000,
     e1: 200_000,
     e2: 140_000,
@@ -16,7 +16,7 @@ const PLAN: Plan = Plan {
     upper: [45, 40, 35],
 };
 
-fn second(state: u8, speed: u16, altitude: i32, co2: u32, nox: u32) -> Second {
+pub(super) fn second(state: u8, speed: u16, altitude: i32, co2: u32, nox: u32) -> Second {
     Second {
         state,
         speed,
@@ -66,12 +66,13 @@ fn items(all: &mut Chosen) {
     }
 }
 
-/// Both sides of every end of a plan's and a second's ranges.
-fn ranges(all: &mut Chosen) {
+/// Plans on both sides of every end of their ranges.
+pub fn plans_at_ends() -> Vec<Plan> {
+    let mut plans = Vec::new();
     let mut plan = |change: &dyn Fn(&mut Plan)| {
         let mut changed = PLAN;
         change(&mut changed);
-        all.add("range of a plan", Case::Item(of_trip(&changed, &[])));
+        plans.push(changed);
     };
     for value in [0, 1, 2, 19_999_999, 20_000_000, 20_000_001] {
         plan(&|p| p.reference = value);
@@ -87,32 +88,48 @@ fn ranges(all: &mut Chosen) {
             plan(&|p| p.upper[class] = value);
         }
     }
+    plans
+}
+
+/// Seconds of a state on both sides of every end of their ranges.
+pub fn seconds_at_ends(state: u8) -> Vec<Second> {
+    let mut seconds = Vec::new();
+    let mut of = |speed, altitude, co2, nox| {
+        seconds.push(second(state, speed, altitude, co2, nox));
+    };
+    for speed in [0, 1, 24_999, 25_000, 25_001, u16::MAX] {
+        of(speed, 5, 5, 5);
+    }
+    for altitude in [
+        -50_001,
+        -50_000,
+        -49_999,
+        0,
+        499_999,
+        500_000,
+        500_001,
+        i32::MIN,
+    ] {
+        of(5, altitude, 5, 5);
+    }
+    for co2 in [0, 1, 99_999, 100_000, 100_001, u32::MAX] {
+        of(5, 5, co2, 5);
+    }
+    for nox in [0, 1, 9_999_999, 10_000_000, 10_000_001, u32::MAX] {
+        of(5, 5, 5, nox);
+    }
+    seconds
+}
+
+/// Both sides of every end of a plan's and a second's ranges.
+fn ranges(all: &mut Chosen) {
+    for plan in plans_at_ends() {
+        all.add("range of a plan", Case::Item(of_trip(&plan, &[])));
+    }
     for state in [1, 3] {
-        let mut of = |speed, altitude, co2, nox| {
-            let seconds = [second(state, speed, altitude, co2, nox)];
-            let bytes = of_trip(&PLAN, &seconds).split_off(21);
+        for second in seconds_at_ends(state) {
+            let bytes = of_trip(&PLAN, &[second]).split_off(21);
             all.add("range of a second", Case::Item(bytes));
-        };
-        for speed in [0, 1, 24_999, 25_000, 25_001, u16::MAX] {
-            of(speed, 5, 5, 5);
-        }
-        for altitude in [
-            -50_001,
-            -50_000,
-            -49_999,
-            0,
-            499_999,
-            500_000,
-            500_001,
-            i32::MIN,
-        ] {
-            of(5, altitude, 5, 5);
-        }
-        for co2 in [0, 1, 99_999, 100_000, 100_001, u32::MAX] {
-            of(5, 5, co2, 5);
-        }
-        for nox in [0, 1, 9_999_999, 10_000_000, 10_000_001, u32::MAX] {
-            of(5, 5, 5, nox);
         }
     }
 }

@@ -67,6 +67,8 @@ pub const NOT_TO_BE_TOLD: [(&str, &str, &str); 20] = [
 struct Table {
     right: Rules,
     part: &'static str,
+    /// Whether the rows that follow are misread by the writer alone.
+    writer_alone: bool,
     rows: Vec<Wrong>,
 }
 
@@ -85,9 +87,18 @@ impl Table {
     fn row(&mut self, sentence: &str, instead: String, change: impl FnOnce(&mut Rules)) {
         let mut rules = self.right.clone();
         change(&mut rules);
+        let mut sentence = sentence.to_string();
+        if self.writer_alone {
+            sentence += " (writer)";
+            let writer_alone = Some(Box::new(rules));
+            rules = Rules {
+                writer_alone,
+                ..self.right.clone()
+            };
+        }
         self.rows.push(Wrong {
             part: self.part,
-            sentence: sentence.to_string(),
+            sentence,
             instead,
             rules,
         });
@@ -251,6 +262,7 @@ pub fn readings(right: &Rules) -> Vec<Wrong> {
     let mut table = Table {
         right: right.clone(),
         part: "",
+        writer_alone: false,
         rows: Vec::new(),
     };
     table::fill(&mut table);

@@ -7,6 +7,7 @@
 
 use super::{Table, JUDGED_FOR_NEITHER, OF_THE_ITEM, OF_THE_PERCENTILE, OF_THE_STREAM, UP_TO_THE_TURN};
 use crate::bound::Rounding;
+use crate::numbers::NO_SECOND;
 use crate::rules::{Holds, Kind, Rules, Slip};
 
 const PARTS: [&str; 3] = ["urban", "rural", "motorway"];
@@ -18,6 +19,8 @@ pub fn fill(t: &mut Table) {
     states(t);
     stream(t);
     orders(t);
+    writer(t);
+    shared_by_the_writer(t);
     mass(t);
     kept_and_windows(t);
     sweep(t);
@@ -30,8 +33,7 @@ pub fn fill(t: &mut Table) {
     answer_and_printed(t);
 }
 
-fn ranges(t: &mut Table) {
-    t.part("range");
+fn ranges_of_seconds_and_plans(t: &mut Table) {
     let speed = "Speed: 0.01 km/h, 0 to 25,000";
     t.range_from_0(speed, |r| &mut r.ranges.speed);
     t.unchecked(speed, "speed", |r| &mut r.ranges.speed);
@@ -57,6 +59,11 @@ fn ranges(t: &mut Table) {
         t.range_from_0(&each, |r| &mut r.ranges.tolerances[place]);
         t.unchecked(&each, name, |r| &mut r.ranges.tolerances[place]);
     }
+}
+
+fn ranges(t: &mut Table) {
+    t.part("range");
+    ranges_of_seconds_and_plans(t);
     t.range_from_0("products in any order, each 0 to 625,000,000", |r| &mut r.ranges.product);
     let limit = "A trip has at most 8,192 seconds";
     t.end(&format!("{limit}: stream"), |r| &mut r.limits.stream);
@@ -66,35 +73,40 @@ fn ranges(t: &mut Table) {
     t.end(&format!("{limit}: D of one second"), |r| &mut r.limits.d);
     t.end(&format!("{limit}: sweep"), |r| &mut r.limits.sweep);
     t.end(&format!("{limit}: percentile"), |r| &mut r.limits.percentile);
+    t.part("writer");
+    t.end(&format!("{limit}: writer"), |r| &mut r.limits.writer);
 }
 
 fn states(t: &mut Table) {
     t.part("state");
+    refused_of_lanes(t);
+    t.states("2 missing", &[&[2, 3], &[], &[3]], |r| &mut r.states.missing);
+    t.states("In states 1 and 3 every value is present", &[&[1], &[3], &[1, 2, 3]], |r| &mut r.states.recorded);
+    t.states("A check second counts with its speed and altitude, not with its masses", &[&[1, 3], &[3], &[]], |r| {
+        &mut r.states.with_masses
+    });
+    t.left_out("6: a lane to be written is too short (stream)", &LANES, |r| &mut r.lanes.of_the_stream);
+    let lent = ["kept speeds", "kept CO2", "ends", "ranks"];
+    t.left_out("6: a lane to be written is too short (trip)", &lent, |r| &mut r.lanes.lent);
+    t.slip("the kept and end lanes, each needing a place per second", "a place per kept second", Slip::RoomForKeptSecondsAlone);
+    t.slip("3: index, from 0, of the first bad value", "of the last", Slip::LastBadValue);
+}
+
+fn refused_of_lanes(t: &mut Table) {
     t.states(
         "Each second has a state: 1 measured, 2 missing, 3 instrument check",
         &[&[0, 1, 2, 3], &[1, 2, 3, 4], &[1, 2], &[1, 3], &[2, 3]],
         |r| &mut r.states.known,
     );
-    t.states("2 missing", &[&[2, 3], &[], &[3]], |r| &mut r.states.missing);
-    t.states("In states 1 and 3 every value is present", &[&[1], &[3], &[1, 2, 3]], |r| &mut r.states.recorded);
     t.states("The values of a missing second are ignored and not range-checked", &[&[1, 2, 3], &[1], &[3]], |r| {
         &mut r.states.range_checked
     });
-    t.states("A check second counts with its speed and altitude, not with its masses", &[&[1, 3], &[3], &[]], |r| {
-        &mut r.states.with_masses
-    });
     t.left_out("1: lanes of one trip differ in length", &LANES, |r| &mut r.lanes.of_one_length);
-    t.left_out("6: a lane to be written is too short (stream)", &LANES, |r| &mut r.lanes.of_the_stream);
-    let lent = ["kept speeds", "kept CO2", "ends", "ranks"];
-    t.left_out("6: a lane to be written is too short (trip)", &lent, |r| &mut r.lanes.lent);
-    t.slip("the kept and end lanes, each needing a place per second", "a place per kept second", Slip::RoomForKeptSecondsAlone);
     t.slip("3: index, from 0, of the first bad second", "of the last", Slip::LastBadSecond);
     t.slip("3: index, from 0, of the first bad second", "place 0", Slip::NoPlaceOfABadSecond);
-    t.slip("3: index, from 0, of the first bad value", "of the last", Slip::LastBadValue);
 }
 
-fn stream(t: &mut Table) {
-    t.part("stream");
+fn table_of_kinds(t: &mut Table) {
     let kinds = "the table of kinds";
     for row in 0..t.right.stream.kinds.len() {
         let Kind { byte, body, .. } = t.right.stream.kinds[row];
@@ -114,7 +126,6 @@ fn stream(t: &mut Table) {
     t.exchanged("plan: reference, E1, E2, E3 (4 bytes each), four tolerances (1 each) in the order above", &plan, |r| {
         &mut r.stream.kinds[0].layout
     });
-    t.row("check second, as 0x01", "a measured one".to_string(), |r| r.stream.kinds[3].holds = Holds::Measured);
     let values = ["speed", "altitude", "CO2", "NOx"];
     let measured = "measured: speed (2), altitude (4), CO2 (4), NOx (4)";
     t.exchanged(measured, &values, |r| &mut r.stream.kinds[1].layout);
@@ -124,6 +135,12 @@ fn stream(t: &mut Table) {
     let signed = "altitude in two's complement";
     t.slip(signed, "without sign", Slip::AltitudeWithoutSign);
     t.slip(signed, "sign and magnitude", Slip::AltitudeBySignAndMagnitude);
+}
+
+fn stream(t: &mut Table) {
+    t.part("stream");
+    table_of_kinds(t);
+    t.row("check second, as 0x01", "a measured one".to_string(), |r| r.stream.kinds[3].holds = Holds::Measured);
     let once = "The plan is the first item and comes once";
     t.slip(once, "it may be repeated", Slip::PlanMayBeRepeated);
     t.slip(once, "it may be late", Slip::PlanMayBeLate);
@@ -157,6 +174,66 @@ fn orders(t: &mut Table) {
     t.order("Mass: 9, then 10", |r| &mut r.orders.mass);
     t.order(OF_THE_ITEM, |r| &mut r.orders.item);
     t.order("the D of one second: 1, 2, 3, 4", |r| &mut r.orders.d);
+}
+
+fn writer(t: &mut Table) {
+    t.part("writer");
+    let refusals = "L1: Refusals: 5, 1, 2, 3, then 6 for a short buffer";
+    t.order(refusals, |r| &mut r.orders.writer);
+    t.left_out(refusals, &["5", "1", "2", "3", "6"], |r| &mut r.orders.writer.numbers);
+    t.row(refusals, "4 too, without a recorded second".to_string(), |r| r.orders.writer.numbers.push(NO_SECOND));
+    t.row(refusals, "4 too, without a second".to_string(), |r| {
+        r.orders.writer.numbers.push(NO_SECOND);
+        r.slip = Some(Slip::NoSecondAtAllRefused);
+    });
+    t.slip(refusals, "3 at the offset of its item", Slip::OffsetOfABadSecond);
+    t.slip(refusals, "6 at the second without room", Slip::PlaceOfAShortBuffer);
+    let short = "L1: 6 for a short buffer";
+    for wrong in [1, -1] {
+        t.row(short, format!("{wrong} spared"), |r| r.writer.bytes_spared = wrong);
+    }
+    t.slip(short, "one without room for values in every second", Slip::RoomForTheValuesOfEverySecond);
+    t.slip(short, "with the bytes asked for", Slip::BytesAskedForGivenWith6);
+    let nothing = "L1: nothing written";
+    t.slip(nothing, "a short buffer is filled", Slip::ShortBufferFilled);
+    t.slip(nothing, "the seconds before a bad one are", Slip::SecondsBeforeABadOneWritten);
+    let rest = "L1: the rest of the buffer untouched";
+    t.slip(rest, "cleared", Slip::RestOfTheBufferCleared);
+    t.slip(rest, "a zero behind the stream", Slip::ByteBehindTheStreamWritten);
+    let number = "L1: the number of bytes written";
+    t.slip(number, "without those of the plan", Slip::BytesWithoutThePlan);
+    t.slip(number, "the number of items", Slip::ItemsForBytes);
+    t.slip("L1: plan and lanes in, stream out", "the plan last", Slip::PlanWrittenLast);
+    let tail = "L1: Service desks trim a trip's tail";
+    t.slip(tail, "the writer does, of missing seconds", Slip::MissingSecondsAtTheEndLeftOut);
+    t.slip(tail, "the writer does, of standing seconds", Slip::StandingSecondsAtTheEndLeftOut);
+    written_as(t);
+}
+
+fn written_as(t: &mut Table) {
+    let same = "L1: A readable stream, read and rewritten, is the same bytes";
+    let states = ["measured", "missing", "check"];
+    for (place, state) in states.into_iter().enumerate() {
+        for (other, name) in states.into_iter().enumerate().filter(|(other, _)| *other != place) {
+            let holds = t.right.writer.written_as[other].1;
+            let instead = format!("a {state} second written as a {name} one");
+            t.row(same, instead, |r| r.writer.written_as[place].1 = holds);
+        }
+    }
+    t.left_out(same, &states, |r| &mut r.writer.written_as);
+}
+
+fn shared_by_the_writer(t: &mut Table) {
+    t.writer_alone = true;
+    ranges_of_seconds_and_plans(t);
+    refused_of_lanes(t);
+    table_of_kinds(t);
+    t.row("L1: Values in a missing second are ignored", "they are written".to_string(), |r| {
+        let measured = r.stream.kinds[1].clone();
+        let missing = &mut r.stream.kinds[2];
+        (missing.body, missing.layout) = (measured.body, measured.layout);
+    });
+    t.writer_alone = false;
 }
 
 fn mass(t: &mut Table) {

@@ -6,6 +6,7 @@ use oracle::second::{Second, TripLanes};
 use oracle::stream::{StreamAnswer, StreamLanes};
 use oracle::trip::{LentLanes, TripAnswer};
 use oracle::windows::{SweepAnswer, SweepState, WindowFigures};
+use oracle::writer::WriteAnswer;
 use oracle::{climb as c, dynamics as d, mass as m, trip as t, windows as w};
 use oracle::{Plan, Refusal, Rules};
 use std::sync::LazyLock;
@@ -65,6 +66,10 @@ pub fn item(bytes: &[u8]) -> Result<(oracle::item::Item, usize), Refusal> {
 
 pub fn read(bytes: &[u8], lanes: &mut StreamLanes) -> Result<StreamAnswer, Refusal> {
     oracle::stream::read(paper(), bytes, lanes)
+}
+
+pub fn write(plan: &Plan, trip: TripLanes, buffer: &mut [u8]) -> WriteAnswer {
+    oracle::writer::write(paper(), plan, trip, buffer)
 }
 
 pub fn each_reason(figures: &Figures) -> [bool; 16] {

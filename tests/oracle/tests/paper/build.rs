@@ -3,6 +3,7 @@
 use crate::random::Random;
 use oracle::numbers::{CHECK, MEASURED};
 use oracle::second::{Second, TripLanes};
+use oracle::stream::StreamLanes;
 use oracle::trip::LentLanes;
 use oracle::{Plan, Refusal};
 
@@ -48,6 +49,24 @@ pub fn missing_with_values() -> Second {
     }
 }
 
+/// Seconds that are 3, each for a reason of its own.
+pub fn bad_seconds() -> [Second; 8] {
+    let wild = missing_with_values();
+    [
+        Second { state: 0, ..wild },
+        Second {
+            state: 4,
+            ..measured(25_000, 500_000, 100_000, 10_000_000)
+        },
+        Second { state: 1, ..wild },
+        measured(25_001, 0, 0, 0),
+        check(0, -50_001, 0, 0),
+        measured(0, 500_001, 0, 0),
+        check(0, 0, 100_001, 0),
+        measured(0, 0, 0, 10_000_001),
+    ]
+}
+
 /// Measured seconds of these speeds, everything else 0.
 pub fn of_speeds(speeds: &[u16]) -> Vec<Second> {
     speeds.iter().map(|&v| measured(v, 0, 0, 0)).collect()
@@ -71,6 +90,33 @@ impl Lanes {
             altitudes: seconds.iter().map(|s| s.altitude).collect(),
             co2: seconds.iter().map(|s| s.co2).collect(),
             nox: seconds.iter().map(|s| s.nox).collect(),
+        }
+    }
+
+    /// Each lane in turn without its last place.
+    pub fn each_shorter(&self) -> [Lanes; 5] {
+        let shorten: [fn(&mut Lanes); 5] = [
+            |lanes| lanes.states.truncate(lanes.states.len() - 1),
+            |lanes| lanes.speeds.truncate(lanes.speeds.len() - 1),
+            |lanes| lanes.altitudes.truncate(lanes.altitudes.len() - 1),
+            |lanes| lanes.co2.truncate(lanes.co2.len() - 1),
+            |lanes| lanes.nox.truncate(lanes.nox.len() - 1),
+        ];
+        shorten.map(|shorten| {
+            let mut lanes = self.clone();
+            shorten(&mut lanes);
+            lanes
+        })
+    }
+
+    /// Lent to the reader.
+    pub fn lent(&mut self) -> StreamLanes<'_> {
+        StreamLanes {
+            states: &mut self.states,
+            speeds: &mut self.speeds,
+            altitudes: &mut self.altitudes,
+            co2: &mut self.co2,
+            nox: &mut self.nox,
         }
     }
 
@@ -159,6 +205,12 @@ pub fn random_second(random: &mut Random, wild: bool) -> Second {
             nox: random.between(0, 10_000_000) as u32,
         },
     }
+}
+
+/// Some such seconds, at most `most`.
+pub fn random_seconds(random: &mut Random, most: i64, wild: bool) -> Vec<Second> {
+    let count = random.between(0, most);
+    (0..count).map(|_| random_second(random, wild)).collect()
 }
 
 /// The plan and the seconds of a trip without a reason against it.

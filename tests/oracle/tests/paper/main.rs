@@ -17,3 +17,4 @@ mod stream;
 mod sweep;
 mod trip;
 mod windows;
+mod writer;

@@ -4,7 +4,7 @@ use crate::as_it_stands::paper;
 use crate::build::{check, measured, plan_bytes, second_bytes, Lanes, PRINTED_PLAN};
 use crate::random::Random;
 use oracle::reader::{leading_to, Held, Reader, SoFar};
-use oracle::stream::{StreamAnswer, StreamLanes};
+use oracle::stream::StreamAnswer;
 use oracle::{Plan, Refusal};
 
 /// Places for more seconds than a trip has.
@@ -18,16 +18,6 @@ fn zeros(places: usize) -> Lanes {
         altitudes: vec![0; places],
         co2: vec![0; places],
         nox: vec![0; places],
-    }
-}
-
-fn lent(lanes: &mut Lanes) -> StreamLanes<'_> {
-    StreamLanes {
-        states: &mut lanes.states,
-        speeds: &mut lanes.speeds,
-        altitudes: &mut lanes.altitudes,
-        co2: &mut lanes.co2,
-        nox: &mut lanes.nox,
     }
 }
 
@@ -211,7 +201,7 @@ fn fed_block_by_block_a_stream_ends_as_a_whole() {
         let mut rest = &stream[..length];
         while !rest.is_empty() {
             let cut = random.between(0, rest.len() as i64) as usize;
-            so_far = so_far.fed(paper(), &rest[..cut], &mut lent(&mut lanes));
+            so_far = so_far.fed(paper(), &rest[..cut], &mut lanes.lent());
             rest = &rest[cut..];
         }
         assert_eq!(so_far.reader(), whole.reader());
@@ -235,7 +225,7 @@ fn a_reader_is_fed_as_the_stream_that_leads_to_it() {
     assert_eq!(read.end(), Err(Refusal::at(7, 36)));
     let mut lanes = zeros(3);
     let rest = [&[0x10][..], &[0; 12], &[2]].concat();
-    let fed = read.fed(paper(), &rest, &mut lent(&mut lanes));
+    let fed = read.fed(paper(), &rest, &mut lanes.lent());
     assert_eq!(fed.reader(), planned(3, 52));
     let accepted = StreamAnswer {
         plan: PRINTED_PLAN,
@@ -245,13 +235,13 @@ fn a_reader_is_fed_as_the_stream_that_leads_to_it() {
     assert_eq!(lanes.states, [0, 1, 2]);
     assert_eq!(lanes.speeds, [0, 3_600, 0]);
     // Lanes that are shorter than what was read before have no place for more.
-    let fed = read.fed(paper(), &rest, &mut lent(&mut zeros(0)));
+    let fed = read.fed(paper(), &rest, &mut zeros(0).lent());
     let settled = Reader {
         refusal: 6,
         ..planned(1, 36)
     };
     assert_eq!(fed.reader(), settled);
     // More blocks change nothing then, whatever the lanes.
-    let again = fed.fed(paper(), &rest, &mut lent(&mut zeros(9)));
+    let again = fed.fed(paper(), &rest, &mut zeros(9).lent());
     assert_eq!(again.reader(), settled);
 }

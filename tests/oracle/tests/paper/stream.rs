@@ -2,11 +2,11 @@
 
 use crate::as_it_stands::read;
 use crate::build::{
-    check, measured, plan_bytes, random_second, second_bytes, stream_bytes, Lanes, PRINTED_PLAN,
+    check, measured, plan_bytes, random_seconds, second_bytes, stream_bytes, Lanes, PRINTED_PLAN,
 };
 use crate::random::Random;
 use oracle::second::Second;
-use oracle::stream::{StreamAnswer, StreamLanes};
+use oracle::stream::StreamAnswer;
 use oracle::{Plan, Refusal};
 
 /// Lanes of these lengths, filled with values that mark an untouched place.
@@ -21,14 +21,7 @@ fn marked(lengths: [usize; 5]) -> Lanes {
 }
 
 fn read_into(bytes: &[u8], lanes: &mut Lanes) -> Result<StreamAnswer, Refusal> {
-    let mut lent = StreamLanes {
-        states: &mut lanes.states,
-        speeds: &mut lanes.speeds,
-        altitudes: &mut lanes.altitudes,
-        co2: &mut lanes.co2,
-        nox: &mut lanes.nox,
-    };
-    read(bytes, &mut lent)
+    read(bytes, &mut lanes.lent())
 }
 
 /// Reads a stream that is refused, and sees that it wrote into no lane.
@@ -74,10 +67,8 @@ fn a_plan_with_no_seconds_is_readable() {
 fn lanes_hold_the_seconds_and_nothing_else_changes() {
     let mut random = Random::seeded(1);
     for round in 0..200 {
-        let count = random.between(0, 20) as usize;
-        let seconds: Vec<Second> = (0..count)
-            .map(|_| random_second(&mut random, false))
-            .collect();
+        let seconds = random_seconds(&mut random, 20, false);
+        let count = seconds.len();
         let longer = [0; 5].map(|_| count + random.between(0, 3) as usize);
         let mut lanes = marked(longer);
         let answer = read_into(&stream_bytes(&PRINTED_PLAN, &seconds), &mut lanes);

@@ -4,8 +4,8 @@ use crate::as_it_stands::{
     d_of_second, evaluate, figures, percentile, recorded, sweep, trip_windows,
 };
 use crate::build::{
-    check, measured, missing_with_values, of_speeds, random_second, refused, valid_trip, Lanes,
-    Lent, GUARD_16, GUARD_32, PRINTED_PLAN,
+    bad_seconds, check, measured, missing_with_values, of_speeds, random_second, refused,
+    valid_trip, Lanes, Lent, GUARD_16, GUARD_32, PRINTED_PLAN,
 };
 use crate::random::Random;
 use oracle::numbers::{MOTORWAY, RURAL};
@@ -387,16 +387,7 @@ fn order_of_refusals() {
 #[test]
 fn lanes_that_differ_in_length_are_1() {
     let whole = Lanes::of(&of_speeds(&[200, 300, 400]));
-    let shorten: [fn(&mut Lanes); 5] = [
-        |lanes| lanes.states.truncate(2),
-        |lanes| lanes.speeds.truncate(2),
-        |lanes| lanes.altitudes.truncate(2),
-        |lanes| lanes.co2.truncate(2),
-        |lanes| lanes.nox.truncate(2),
-    ];
-    for shorten in shorten {
-        let mut lanes = whole.clone();
-        shorten(&mut lanes);
+    for lanes in whole.each_shorter() {
         assert_eq!(
             refusal_of(&PRINTED_PLAN, &lanes, &mut Lent::of(9)),
             Refusal::at(1, 0)
@@ -428,17 +419,7 @@ fn each_lent_lane_needs_a_place_per_second_also_where_fewer_would_be_used() {
 fn the_first_bad_second_is_the_place_of_3() {
     let good = measured(25_000, 500_000, 100_000, 10_000_000);
     let wild = missing_with_values();
-    let bad = [
-        Second { state: 0, ..wild },
-        Second { state: 4, ..good },
-        Second { state: 1, ..wild },
-        measured(25_001, 0, 0, 0),
-        check(0, -50_001, 0, 0),
-        measured(0, 500_001, 0, 0),
-        check(0, 0, 100_001, 0),
-        measured(0, 0, 0, 10_000_001),
-    ];
-    for bad in bad {
+    for bad in bad_seconds() {
         for place in 0..3 {
             let mut seconds = [good, wild, good, bad, bad];
             seconds[place] = bad;
