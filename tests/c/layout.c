@@ -217,11 +217,12 @@ static void printed_case(void)
                                   6, nox, 6);
     expect(read.refusal == 0 && read.seconds == 5 && read.plan.e3 == 160000 && states[5] == 9,
            "the stream whole");
-    uint8_t again[97] = {0};
+    uint8_t again[97];
+    again[96] = 9;
     pb_write_answer made = pb_write(read.plan, states, 5, speeds, 5, altitudes, 5, co2, 5, nox, 5,
                                     again, sizeof again);
     expect(made.refusal == 0 && made.bytes == sizeof stream &&
-               memcmp(again, stream, sizeof stream) == 0 && again[96] == 0,
+               memcmp(again, stream, sizeof stream) == 0 && again[96] == 9,
            "the stream, read and written");
     pb_sweep_state beginning = {0, 0, 0, 0};
     pb_sweep_answer swept = pb_sweep(read.plan.reference, co2, 5, ends, 5, beginning, UINT64_MAX);
@@ -309,13 +310,15 @@ static void writing(void)
     }
     trip.states[0] = PB_MISSING;
     expect(write_front(plan, &trip, 2, stream, ROOM).bytes == PLAN + 2, "missing seconds alone");
-    trip.states[0] = PB_MEASURED;
+    for (uint8_t state = 0; state <= 4; state += 4) {
+        trip.states[2] = state;
+        expect(is_refused(write_front(plan, &trip, 3, stream, ROOM), PB_OUT_OF_RANGE, 2, stream),
+               "a state that there is not is refusal 3 at its index");
+    }
+    trip.states[2] = PB_CHECK;
     trip.speeds[2]++;
     expect(is_refused(write_front(plan, &trip, 3, stream, 0), PB_OUT_OF_RANGE, 2, stream),
-           "a bad second is refusal 3 at its index, before 6");
-    trip.states[1] = 0;
-    expect(is_refused(write_front(plan, &trip, 3, stream, ROOM), PB_OUT_OF_RANGE, 1, stream),
-           "a bad state too");
+           "a value out of range too, before 6");
     for (int i = 0; i < 2; i++) {
         pb_write_answer made = pb_write(plan, trip.states, 3, trip.speeds, 3, trip.altitudes, 3,
                                         trip.co2, 3, trip.nox, 2, stream, ROOM);
