@@ -7,7 +7,7 @@
  *
  * Standard output has the stream and nothing else, and nothing before all of it is made; standard
  * error says in words what is wrong. Ends with 0 where the stream was written, 2 for a refusal, 3
- * where there is none to write: the trip has fewer seconds, or reading or writing fails.
+ * where there is none to write: not so many seconds, no number, or reading or writing fails.
  */
 #include <stdio.h>
 #include <stdlib.h>
