@@ -2,13 +2,16 @@
 # with `#:` is a line of `make help`, which `make` alone prints too.
 
 .DEFAULT_GOAL := help
-.PHONY: help test judge judge-as lib bench soak readings
+.PHONY: help test judge judge-as trim lib bench soak readings
 
 # The names of files reach the scripts through the environment, as they were typed: `make` would
-# take a `$` for its own, and the shell a quote.
+# take a `$` for its own, and the shell a quote. SECONDS has another name there: some shells have a
+# clock of that name.
 override TRIP := $(value TRIP)
 override RELEASE := $(value RELEASE)
-export TRIP RELEASE
+override SECONDS := $(value SECONDS)
+override KEEP := $(SECONDS)
+export TRIP RELEASE KEEP
 
 #: make help                          this list
 help:
@@ -21,6 +24,10 @@ judge:
 #: make judge-as RELEASE=1 TRIP=FILE  judge a trip as that release did
 judge-as:
 	@tools/judge-as "$$RELEASE" "$$TRIP"
+
+#: make trim TRIP=FILE SECONDS=N      the first seconds of a trip as a stream: > OUT
+trim:
+	@tools/trim "$$TRIP" "$$KEEP"
 
 #: make lib                           build the library for C, target/pierbracken/
 lib:

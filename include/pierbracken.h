@@ -10,8 +10,9 @@
  * The caller's duties, which no call can test:
  *  - No pointer is NULL, also where its count is 0. Each has as many places as its count says, with
  *    the natural alignment of their type.
- *  - No lane that is written overlaps anything else that the call reads or writes. Kept lanes lent
- *    over the trip's own give an accepted, wrong answer; products are not ranked in place.
+ *  - No lane, and no stream, that is written overlaps anything else that the call reads or writes.
+ *    Kept lanes lent over the trip's own give an accepted, wrong answer; products are not ranked in
+ *    place.
  *  - The float mode is as C starts it: round to nearest, denormals kept. In another rounding mode,
  *    or with the start-up code of -ffast-math, masses and their refusals differ.
  *  - Calls may run in several threads; no two at a time share a lane that one of them writes.
@@ -201,6 +202,32 @@ pb_read_answer pb_read(const uint8_t *stream, size_t stream_bytes,
                        int32_t *altitudes, size_t altitudes_places,
                        uint32_t *co2, size_t co2_places,
                        uint32_t *nox, size_t nox_places);
+
+/* The answer of writing a stream. */
+typedef struct pb_write_answer {
+    uint8_t refusal;
+    size_t place; /* index of the first bad second for PB_OUT_OF_RANGE, else 0 */
+    size_t bytes; /* bytes written; 0 in a refusal */
+} pb_write_answer;
+
+/*
+ * The stream of a plan and a trip's five lanes: the item of the plan, then that of each second.
+ * Values of a missing second are not looked at; reading the stream gives zeros there, and otherwise
+ * the same plan and lanes. A stream that was read is written byte for byte; the front parts of its
+ * lanes are written without its tail (examples/c/trim.c). A trip without seconds, or with missing
+ * ones only, is written too. Bytes behind the stream are left alone.
+ *
+ * Refused by PB_PLAN_OUT_OF_RANGE, PB_LANES_DIFFER, PB_TOO_MANY, PB_OUT_OF_RANGE (a state of any
+ * second, or a value of one that is not missing; ranges as in pb_item_answer), PB_LANE_TOO_SHORT
+ * (fewer places than this stream has bytes; PB_STREAM_MOST are always enough), in this order; a
+ * refused call writes nothing.
+ */
+pb_write_answer pb_write(pb_plan plan, const uint8_t *states, size_t states_count,
+                         const uint16_t *speeds, size_t speeds_count,
+                         const int32_t *altitudes, size_t altitudes_count,
+                         const uint32_t *co2, size_t co2_count,
+                         const uint32_t *nox, size_t nox_count,
+                         uint8_t *stream, size_t stream_places);
 
 /* ---- a stream that arrives in blocks ---- */
 

@@ -1,6 +1,6 @@
 #!/bin/sh
-# tests/program.sh: the examples by the program and by `make judge`; a trip by an earlier release;
-# and the program on inputs that are empty, fail or do not end. The last line is
+# tests/program.sh: the examples by the program and by `make judge`; a trip by an earlier release; a
+# trip trimmed; and the program on inputs that are empty, fail or do not end. The last line is
 # `N passed, M failed`.
 cd "$(dirname "$0")/.." || exit 1
 judge=target/bin/judge
@@ -8,7 +8,7 @@ passed=0 failed=0
 room=$(mktemp -d) || exit 1
 trap 'rm -rf "$room"' EXIT
 # What was set for the run of the tests is not for the commands that they run.
-unset PROGRESS TRIP RELEASE
+unset PROGRESS TRIP RELEASE SECONDS KEEP
 
 # wants NAME FILE: what was said is what the file has.
 wants() {
@@ -139,13 +139,15 @@ ends "an answer that cannot be written" 3 "judge: the answer could not be writte
 
 # A copy that every user reaches: this is said before the program is needed.
 mkdir -m 755 "$room/open" "$room/open/tools"
-cp tools/judge tools/trip "$room/open/tools"
+cp tools/judge tools/trim tools/trip tools/needs "$room/open/tools"
 cp examples/printed.trip "$room/open/closed.trip"
-chmod 755 "$room" "$room/open/tools/judge"
-chmod 644 "$room/open/tools/trip"
+chmod 755 "$room" "$room/open/tools/judge" "$room/open/tools/trim"
+chmod 644 "$room/open/tools/trip" "$room/open/tools/needs"
 chmod 000 "$room/open/closed.trip"
 runs as_user "$room/open/tools/judge" "$room/open/closed.trip"
 no_answer "a file that may not be read" "judge: this file may not be read: $room/open/closed.trip"
+runs as_user "$room/open/tools/trim" "$room/open/closed.trip" 1
+no_answer "a file that may not be read, by trim" "trim: this file may not be read: $room/open/closed.trip"
 
 runs tools/judge-as 1 examples/printed.trip
 ends "a trip is judged by release 1" 0 ""
@@ -160,6 +162,36 @@ runs tools/judge-as 0 examples/printed.trip
 wants "a release that never was: nothing is printed" /dev/null
 sed 's/: they run .*//' "$room/error" >"$room/error.cut" && mv "$room/error.cut" "$room/error"
 ends "a release that never was" 3 'there is no release `0`'
+
+# ---- a trip trimmed: 0 written, 2 refused, 3 nothing to write
+
+which="trim: which trip, and how many seconds of it? make trim TRIP=FILE SECONDS=N > OUT, or tools/trim FILE N > OUT"
+runs tools/trim examples/printed.trip 5
+wants "all seconds of a trip" examples/printed.trip
+ends "all seconds of a trip are written" 0 ""
+runs tools/trim examples/printed.trip 6
+no_answer "more seconds than a trip has" "the trip has fewer seconds: 5"
+runs tools/trim examples/cut.trip 5
+wants "a cut stream, by trim: nothing is printed" /dev/null
+ends "a cut stream, by trim" 2 "refused 7 at byte 49991: the stream ends inside an item"
+runs tools/trim "$room/none" 5
+no_answer "no such file, by trim" "trim: no such file: $room/none"
+runs tools/trim "$room" 5
+no_answer "a directory, by trim" "trim: this is a directory: $room"
+runs tools/trim "/proc/$$/mem" 5
+no_answer "a file whose read fails, by trim" "unreadable"
+runs tools/trim examples/printed.trip
+no_answer "no seconds are named" "$which"
+runs tools/trim "" 5
+no_answer "no trip is named" "$which"
+tools/trim examples/printed.trip 5 >/dev/full 2>"$room/error"
+ended=$?
+ends "a stream that cannot be written" 3 "unwritable"
+if command -v script >/dev/null; then
+    runs script -q -e -c "tools/trim examples/printed.trip 5" /dev/null
+    tr -d '\r' <"$room/said" >"$room/error"
+    ends "a stream to a terminal" 3 "trim: a stream is not for a terminal: say where to, > OUT"
+fi
 
 # ---- the commands of make
 
@@ -200,18 +232,34 @@ ends "make judge-as without a trip" 2 \
     "judge-as: which release, and which trip? make judge-as RELEASE=1 TRIP=FILE, or tools/judge-as RELEASE FILE"
 made judge TRIP="$room/none"
 ends "make judge of no such file" 2 "judge: no such file: $room/none"
+made trim TRIP=examples/printed.trip
+wants "make trim without seconds: nothing is printed" /dev/null
+ends "make trim without seconds" 2 "$which"
+# In some shells SECONDS is a clock, which begins at the number that it is handed, or at 0.
+for shell in sh $(command -v bash); do
+    for number in none '$0' '$(words 1 2 3)' '`echo 3`'; do
+        made SHELL="$shell" trim TRIP=examples/printed.trip SECONDS="$number"
+        wants "$number seconds by make trim and $shell: nothing is printed" /dev/null
+        ends "$number seconds by make trim and $shell" 2 \
+            "usage: trim TRIP SECONDS, a whole number of them to keep"
+    done
+done
 
-# A copy with the program built, in whose folder a name can begin with anything.
-mkdir -p "$room/copy/target/bin"
+# A copy with program and library built, in whose folder a name can begin with anything.
+mkdir -p "$room/copy/target/bin" "$room/copy/target/staticlib" "$room/copy/examples"
 cp -Rp Makefile tools include crates crates.txt "$room/copy"
+cp -Rp examples/c "$room/copy/examples"
 cp -p "$judge" "$room/copy/target/bin"
-cp -p target/judge.built "$room/copy/target"
+cp -p target/staticlib/libcapi.a "$room/copy/target/staticlib"
+cp -p target/judge.built target/lib.built "$room/copy/target"
 for name in "it's a \$5 trip.trip" '$HOME $(TRIP) $$.trip' 'a;b & c#d.trip' '-n' '--' '"q" \n `x` *?.trip' 'a=b:c%d|e'; do
     cp examples/printed.trip "$room/copy/./$name"
     runs make --no-print-directory -C "$room/copy" judge TRIP="$name"
     wants "the file $name, by make judge" examples/printed.expected
     TRIP=$name runs make --no-print-directory -C "$room/copy" judge
     wants "the file $name, by make judge, named in the environment" examples/printed.expected
+    runs make --no-print-directory -C "$room/copy" trim TRIP="$name" SECONDS=5
+    wants "the file $name, by make trim" examples/printed.trip
 done
 name="it's a \$5; -trip#.trip"
 cp examples/printed.trip "$room/$name"
@@ -288,6 +336,10 @@ saying "$small/tools/judge" examples/printed.trip
 wants "a program that is not proved: nothing is printed" /dev/null
 tail -n 1 "$room/error" >"$room/error.last" && mv "$room/error.last" "$room/error"
 ends "a program that is not proved" 3 "judge: the program is not built; target/judge.log has all that was said"
+saying "$small/tools/trim" examples/printed.trip 5
+wants "a library that is not proved, by trim: nothing is printed" /dev/null
+tail -n 1 "$room/error" >"$room/error.last" && mv "$room/error.last" "$room/error"
+ends "a library that is not proved, by trim" 3 "lib: the library is not built; target/lib.log has all that was said"
 rm "$small/fails"
 
 # On a terminal: one line, drawn again from its beginning, and taken away before the answer.

@@ -25,11 +25,12 @@ static void limits(void)
 {
     static uint8_t stream[PB_STREAM_MOST + 15] = {0x10, 0, 0, 0, 1, 0, 0, 0, 1, 0, 0, 0, 1, 0, 0, 0,
                                                   1};
-    static uint8_t states[PB_TRIP_MOST];
-    static uint16_t speeds[PB_TRIP_MOST];
-    static int32_t altitudes[PB_TRIP_MOST];
-    static uint32_t co2[PB_TRIP_MOST], nox[PB_TRIP_MOST];
+    static uint8_t states[PB_TRIP_MOST + 1], written[PB_STREAM_MOST];
+    static uint16_t speeds[PB_TRIP_MOST + 1];
+    static int32_t altitudes[PB_TRIP_MOST + 1];
+    static uint32_t co2[PB_TRIP_MOST + 1], nox[PB_TRIP_MOST + 1];
     pb_read_answer read;
+    pb_write_answer made;
 
     expect(PB_RELEASE == pb_meaning(), "the header's release is the library's");
     expect(PB_TRIP_MOST == 8192, "8,192 seconds");
@@ -39,6 +40,15 @@ static void limits(void)
     read = pb_read(stream, PB_STREAM_MOST, states, PB_TRIP_MOST, speeds, PB_TRIP_MOST, altitudes,
                    PB_TRIP_MOST, co2, PB_TRIP_MOST, nox, PB_TRIP_MOST);
     expect(read.refusal == PB_ACCEPTED && read.seconds == PB_TRIP_MOST, "the longest stream");
+    made = pb_write(read.plan, states, read.seconds, speeds, read.seconds, altitudes, read.seconds,
+                    co2, read.seconds, nox, read.seconds, written, PB_STREAM_MOST);
+    expect(made.refusal == PB_ACCEPTED && made.bytes == PB_STREAM_MOST &&
+               memcmp(written, stream, PB_STREAM_MOST) == 0,
+           "the longest stream, written");
+    made = pb_write(read.plan, states, PB_TRIP_MOST + 1, speeds, PB_TRIP_MOST + 1, altitudes,
+                    PB_TRIP_MOST + 1, co2, PB_TRIP_MOST + 1, nox, PB_TRIP_MOST + 1, written, 0);
+    expect(made.refusal == PB_TOO_MANY && made.place == 0 && made.bytes == 0,
+           "one second more is not written");
     read = pb_read(stream, sizeof stream, states, PB_TRIP_MOST, speeds, PB_TRIP_MOST, altitudes,
                    PB_TRIP_MOST, co2, PB_TRIP_MOST, nox, PB_TRIP_MOST);
     expect(read.refusal == PB_TOO_MANY && read.place == PB_STREAM_MOST, "one second more");
@@ -92,6 +102,10 @@ static void layout(void)
     expect(offsetof(pb_read_answer, place) == 8, "offset of a reading's place");
     expect(offsetof(pb_read_answer, plan) == 16, "offset of a reading's plan");
     expect(offsetof(pb_read_answer, seconds) == 40, "offset of seconds");
+    expect(sizeof(pb_write_answer) == 24, "size of pb_write_answer");
+    expect(offsetof(pb_write_answer, refusal) == 0, "offset of a writing's refusal");
+    expect(offsetof(pb_write_answer, place) == 8, "offset of a writing's place");
+    expect(offsetof(pb_write_answer, bytes) == 16, "offset of bytes");
     expect(sizeof(pb_reader) == 72, "size of pb_reader");
     expect(offsetof(pb_reader, refusal) == 0, "offset of a reader's refusal");
     expect(offsetof(pb_reader, plan) == 4, "offset of a reader's plan");
@@ -203,6 +217,13 @@ static void printed_case(void)
                                   6, nox, 6);
     expect(read.refusal == 0 && read.seconds == 5 && read.plan.e3 == 160000 && states[5] == 9,
            "the stream whole");
+    uint8_t again[97];
+    again[96] = 9;
+    pb_write_answer made = pb_write(read.plan, states, 5, speeds, 5, altitudes, 5, co2, 5, nox, 5,
+                                    again, sizeof again);
+    expect(made.refusal == 0 && made.bytes == sizeof stream &&
+               memcmp(again, stream, sizeof stream) == 0 && again[96] == 9,
+           "the stream, read and written");
     pb_sweep_state beginning = {0, 0, 0, 0};
     pb_sweep_answer swept = pb_sweep(read.plan.reference, co2, 5, ends, 5, beginning, UINT64_MAX);
     expect(swept.refusal == 0 && swept.over && swept.moves == 9 && swept.state.dropped == 4 &&
@@ -231,6 +252,80 @@ static void printed_case(void)
     fed = pb_feed(fed.reader, stream, 1, states, 6, speeds, 6, altitudes, 6, co2, 6, nox, 6);
     expect(fed.refusal == PB_STATE_NOT_REACHED && fed.reader.seconds == 0,
            "a reader that was never made is refusal 13");
+}
+
+/* Three seconds, one in each state; the missing one has values that no second has. */
+struct lanes {
+    uint8_t states[3];
+    uint16_t speeds[3];
+    int32_t altitudes[3];
+    uint32_t co2[3], nox[3];
+};
+
+enum { PLAN = 21, THREE = PLAN + 15 + 1 + 15, ROOM = THREE + 1, PAINT = 9 };
+
+/* Writes the first seconds of a trip into as many places of a painted buffer. */
+static pb_write_answer write_front(pb_plan plan, const struct lanes *trip, size_t n,
+                                   uint8_t *stream, size_t places)
+{
+    memset(stream, PAINT, ROOM);
+    return pb_write(plan, trip->states, n, trip->speeds, n, trip->altitudes, n, trip->co2, n,
+                    trip->nox, n, stream, places);
+}
+
+/* Whether a call was refused so, and wrote nothing. */
+static bool is_refused(pb_write_answer made, uint8_t refusal, size_t place, const uint8_t *stream)
+{
+    uint8_t painted[ROOM];
+
+    memset(painted, PAINT, ROOM);
+    return made.refusal == refusal && made.place == place && made.bytes == 0 &&
+           memcmp(stream, painted, ROOM) == 0;
+}
+
+/* The bytes of a trip, of its fronts, and each refusal (too many seconds: `limits`). */
+static void writing(void)
+{
+    static const uint8_t bytes[THREE] = {
+        PB_ITEM_PLAN, 0, 0, 0, 7, 0, 3, 0x0d, 0x40, 0, 2, 0x22, 0xe0, 0, 2, 0x71, 0, 25, 45, 40, 41,
+        PB_ITEM_MEASURED, 0x0e, 0x10, 0xff, 0xff, 0x3c, 0xb0, 0, 0, 0, 3, 0, 0, 1, 0,
+        PB_ITEM_MISSING,
+        PB_ITEM_CHECK, 0x61, 0xa8, 0, 7, 0xa1, 0x20, 0, 1, 0x86, 0xa0, 0, 0x98, 0x96, 0x80};
+    pb_plan plan = {7, 200000, 140000, 160000, 25, 45, 40, 41};
+    struct lanes trip = {{PB_MEASURED, PB_MISSING, PB_CHECK},
+                         {3600, UINT16_MAX, 25000},
+                         {-50000, INT32_MIN, 500000},
+                         {3, UINT32_MAX, 100000},
+                         {256, UINT32_MAX, 10000000}};
+    static const size_t lengths[4] = {PLAN, PLAN + 15, PLAN + 15 + 1, THREE};
+    uint8_t stream[ROOM];
+
+    for (size_t n = 0; n <= 3; n++) {
+        pb_write_answer made = write_front(plan, &trip, n, stream, lengths[n]);
+        expect(made.refusal == PB_ACCEPTED && made.place == 0 && made.bytes == lengths[n] &&
+                   memcmp(stream, bytes, lengths[n]) == 0 && stream[lengths[n]] == PAINT,
+               "the first seconds of a trip, into as many places as they need");
+        made = write_front(plan, &trip, n, stream, lengths[n] - 1);
+        expect(is_refused(made, PB_LANE_TOO_SHORT, 0, stream), "a place less is refusal 6");
+    }
+    trip.states[0] = PB_MISSING;
+    expect(write_front(plan, &trip, 2, stream, ROOM).bytes == PLAN + 2, "missing seconds alone");
+    for (uint8_t state = 0; state <= 4; state += 4) {
+        trip.states[2] = state;
+        expect(is_refused(write_front(plan, &trip, 3, stream, ROOM), PB_OUT_OF_RANGE, 2, stream),
+               "a state that there is not is refusal 3 at its index");
+    }
+    trip.states[2] = PB_CHECK;
+    trip.speeds[2]++;
+    expect(is_refused(write_front(plan, &trip, 3, stream, 0), PB_OUT_OF_RANGE, 2, stream),
+           "a value out of range too, before 6");
+    for (int i = 0; i < 2; i++) {
+        pb_write_answer made = pb_write(plan, trip.states, 3, trip.speeds, 3, trip.altitudes, 3,
+                                        trip.co2, 3, trip.nox, 2, stream, ROOM);
+        expect(is_refused(made, i == 0 ? PB_LANES_DIFFER : PB_PLAN_OUT_OF_RANGE, 0, stream),
+               "lanes that differ are refusal 1, before 3; a bad plan is refusal 5, before 1");
+        plan.motorway = 101;
+    }
 }
 
 /* Whether a sweep of a lane's front, by some moves, goes on to its end on the whole lane. */
@@ -291,6 +386,7 @@ int main(void)
     layout();
     mass();
     printed_case();
+    writing();
     longer_lane();
     dynamics();
     printf("%d passed, %d failed\n", passed, failed);
