@@ -3,6 +3,7 @@
 # and run on the examples, on a trip of the greatest length and on what is no trip: what they print
 # and how they end. The last line is `N passed, M failed`.
 cd "$(dirname "$0")/../.." || exit 1
+. tools/compilers
 passed=0 failed=0
 room=$(mktemp -d) || exit 1
 trap 'rm -rf "$room"' EXIT
@@ -27,7 +28,7 @@ ends() {
 
 # builds NAME: builds an example as a user does, with every warning an error; it is short.
 builds() {
-    cc -std=c11 -Wall -Wextra -Werror -pedantic -I target/pierbracken -o "$room/$1" \
+    "$cc" -std=c11 -Wall -Wextra -Werror -pedantic -I target/pierbracken -o "$room/$1" \
         "examples/c/$1.c" target/pierbracken/libpierbracken.a
     is "$1 is built" 0 $?
     [ "$(wc -l <"examples/c/$1.c")" -lt 100 ]
