@@ -6,7 +6,9 @@ use mathlib.Core.Logic.{_↔_}
 use lib.ListN.{length}
 use Rattle.item.specs.Format.{Bytes}
 use Rattle.second.specs.declared.Row.{Row}
-use Rattle.stream.specs.Reading.{readOf, laneAfter}
+use Rattle.second.specs.Lanes.{Lanes, eachLane, roomIn}
+use Rattle.second.proofs.EachLane as each-lane
+use Rattle.stream.specs.Reading.{readOf, laneAfter, streamLeft}
 use Rattle.reader.specs.declared.Reader.{Reader}
 use Rattle.reader.specs.Reader.{carryPlaces, started}
 use Rattle.reader.specs.Blocks.{readerAfter, laneWith, fedAll, laneAll, fedOf, endOf}
@@ -31,6 +33,14 @@ module _ (room : ℕ) (blocks : List (List ℕ)) where
       {A : Type ℓ} (value : Row → A) (lane : List A) → room ≤ length lane → readOf room (flatten blocks) .refusal ≡ 0 →
       laneAll value room started blocks lane ≡ laneAfter value room (flatten blocks) lane
   same-lane value lane = whole.blocks-lane room blocks value lane
+
+-- all five lanes, each fed block by block
+abbrev pub lanesAll : List (List ℕ) → Lanes → Lanes
+lanesAll blocks lanes = eachLane (λ A value lane. laneAll value (roomIn lanes) started blocks lane) lanes
+
+pub same-lanes : (blocks : List (List ℕ)) (lanes : Lanes) → readOf (roomIn lanes) (flatten blocks) .refusal ≡ 0 → lanesAll blocks lanes ≡ streamLeft (flatten blocks) lanes
+same-lanes blocks lanes z =
+    each-lane.same-lanes (each-lane.each-own (λ A value a b. a ≡ b) lanes (λ A value. laneAll value (roomIn lanes) started blocks) (λ A value. laneAfter value (roomIn lanes) (flatten blocks)) (λ A value lane fits. same-lane (roomIn lanes) blocks value lane fits z))
 
 -- feeding a and then b is feeding both as one: the reader and the lanes
 pub reader-in-two : (room : ℕ) (r : Reader) (a b : List ℕ) → readerAfter room (readerAfter room r a) b ≡ readerAfter room r (a ++ b)

@@ -15,6 +15,9 @@ use Rattle.item.proofs.read_item.Reads as read-item-call
 use Rattle.stream.specs.Reading.{readOf, streamLeft}
 use Rattle.stream.proofs.read_stream.Kinds as stream-kinds
 use Rattle.stream.proofs.read_stream.Reads as read-stream-call
+use Rattle.writer.specs.Writing.{writeOf, bufferAfter}
+use Rattle.writer.proofs.write_stream.Kinds as write-kinds
+use Rattle.writer.proofs.write_stream.Reads as write-stream-call
 use Rattle.reader.specs.Reader.{started}
 use Rattle.reader.specs.Blocks.{fedOf, lanesFed, endOf}
 use Rattle.reader.proofs.start.Kinds as start-kinds
@@ -89,7 +92,7 @@ nox-mass = record { takes-all = λ κs a. tt; means = λ κs a x e p. (p, refl) 
 pub read-item : Gives read-item-call.Pre read-item-call.Post (λ κs a. itemOf (a .0 .now))
 read-item = record { takes-all = λ κs a. tt; means = λ κs a x e p. (p, refl) }
 
--- how many lanes are lent: those of a trip; with the bytes that are read; with the four that an evaluation fills; with a buffer
+-- how many lanes are lent: those of a trip; with the bytes that are read, or written; with the four that an evaluation fills; with a buffer
 abbrev pub tripLanes : ℕ
 tripLanes = 5
 
@@ -129,6 +132,27 @@ ReadsStream asks allows =
 
 pub read-stream : ReadsStream read-stream-call.Pre read-stream-call.Post
 read-stream = record { takes-all = λ κs a. tt; means = λ κs a x e p. p }
+
+-- ---- the stream that is written: the plan, the five lanes, and the buffer
+abbrev pub tripToWrite : (κs : Lfts streamLanes) → contract.Dens κs write-kinds.ps → Lanes
+tripToWrite κs a = lanesOf (a .1 .0 .now) (a .1 .1 .0 .now) (a .1 .1 .1 .0 .now) (a .1 .1 .1 .1 .0 .now) (a .1 .1 .1 .1 .1 .0 .now)
+
+abbrev pub bufferLent : (κs : Lfts streamLanes) → contract.Dens κs write-kinds.ps → List ℕ
+bufferLent κs a = a .1 .1 .1 .1 .1 .1 .0 .now
+
+abbrev pub bufferLeft : (κs : Lfts streamLanes) → AtExit (contract.endedOf streamLanes write-kinds.ps write-kinds.r) κs → List ℕ
+bufferLeft κs e = e .1 .1 .1 .1 .1 .1 .0 .now
+
+-- a call that writes a stream
+abbrev pub WritesStream : contract.In streamLanes write-kinds.ps → contract.Out streamLanes write-kinds.ps write-kinds.r → Type 0
+WritesStream asks allows =
+    Answers (List ℕ) asks allows
+    (λ κs a. writeOf (a .0) (tripToWrite κs a) (length (bufferLent κs a)))
+    bufferLeft
+    (λ κs a. bufferAfter (a .0) (tripToWrite κs a) (bufferLent κs a))
+
+pub write-stream : WritesStream write-stream-call.Pre write-stream-call.Post
+write-stream = record { takes-all = λ κs a. tt; means = λ κs a x e p. p }
 
 -- ---- the stream in blocks
 abbrev pub Starts : contract.In 0 start-kinds.ps → contract.Out 0 start-kinds.ps start-kinds.r → Type 0

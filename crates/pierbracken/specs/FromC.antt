@@ -15,6 +15,7 @@ use Rattle.capi.proofs.concentration.pb_mass_co2.Reads as pb-mass-co2-call
 use Rattle.capi.proofs.concentration.pb_mass_nox.Reads as pb-mass-nox-call
 use Rattle.capi.proofs.streams.pb_item.Reads as pb-item-call
 use Rattle.capi.proofs.streams.pb_read.Reads as pb-read-call
+use Rattle.capi.proofs.streams.pb_write.Reads as pb-write-call
 use Rattle.capi.proofs.feeding.pb_start.Reads as pb-start-call
 use Rattle.capi.proofs.feeding.pb_feed.Reads as pb-feed-call
 use Rattle.capi.proofs.feeding.pb_end.Reads as pb-end-call
@@ -23,11 +24,14 @@ use Rattle.capi.proofs.accelerations.pb_acceleration.Reads as pb-acceleration-c
 use Rattle.capi.proofs.accelerations.pb_percentile.Reads as pb-percentile-call
 use Rattle.capi.proofs.trips.pb_evaluate.Reads as pb-evaluate-call
 use Rattle.capi.proofs.reasons.pb_has_reason.Reads as pb-has-reason-call
-use Rattle.pierbracken.specs.Calls.{Answers, Gives, lanesBefore, indexBehind, ReadsStream, Starts, Feeds, Ends, Sweeps, Evaluates, TestsReason}
+use Rattle.pierbracken.specs.Calls.{Answers, Gives, lanesBefore, indexBehind, ReadsStream, WritesStream, Starts, Feeds, Ends, Sweeps, Evaluates, TestsReason}
 
 -- ---- the calls that answer as those of the library do, in the same words
 pub pb-read : ReadsStream pb-read-call.Pre pb-read-call.Post
 pb-read = record { takes-all = λ κs a. tt; means = λ κs a x e p. p }
+
+pub pb-write : WritesStream pb-write-call.Pre pb-write-call.Post
+pb-write = record { takes-all = λ κs a. tt; means = λ κs a x e p. p }
 
 pub pb-start : Starts pb-start-call.Pre pb-start-call.Post
 pb-start = record { takes-all = λ κs a. tt; means = λ κs a x e p. (p, refl) }

@@ -9,4 +9,5 @@ pub mod Verdict
 pub mod Sums
 pub mod Dynamics
 pub mod Blocks
+pub mod Writing
 pub mod Examples

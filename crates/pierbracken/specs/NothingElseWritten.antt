@@ -1,4 +1,4 @@
--- Demand 1: a refusal "writes into no lane"; "An accepted call changes only the places named for it."
+-- Demand 1: a refusal "writes into no lane"; "An accepted call changes only the places named for it." The writer's buffer stands in `Writing`.
 use Prim.Native.Nat.{ℕ, _≤_, _<_}
 use mathlib.Core.Path.{_≡_}
 use mathlib.Core.List.{List, map}

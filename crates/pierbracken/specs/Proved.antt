@@ -7,6 +7,8 @@ use Rattle.item.proofs.read_item.Statement as read-item-is
 use Rattle.item.proofs.read_item.Met as read-item-met
 use Rattle.stream.proofs.read_stream.Statement as read-stream-is
 use Rattle.stream.proofs.read_stream.Met as read-stream-met
+use Rattle.writer.proofs.write_stream.Statement as write-stream-is
+use Rattle.writer.proofs.write_stream.Met as write-stream-met
 use Rattle.reader.proofs.start.Statement as start-is
 use Rattle.reader.proofs.start.Met as start-met
 use Rattle.blocks.proofs.feed.Statement as feed-is
@@ -39,6 +41,8 @@ use Rattle.capi.proofs.streams.pb_item.Statement as pb-item-is
 use Rattle.capi.proofs.streams.pb_item.Met as pb-item-met
 use Rattle.capi.proofs.streams.pb_read.Statement as pb-read-is
 use Rattle.capi.proofs.streams.pb_read.Met as pb-read-met
+use Rattle.capi.proofs.streams.pb_write.Statement as pb-write-is
+use Rattle.capi.proofs.streams.pb_write.Met as pb-write-met
 use Rattle.capi.proofs.feeding.pb_start.Statement as pb-start-is
 use Rattle.capi.proofs.feeding.pb_start.Met as pb-start-met
 use Rattle.capi.proofs.feeding.pb_feed.Statement as pb-feed-is
@@ -69,6 +73,9 @@ module _ {M : Type 1} where
 
   pub read-stream : read-stream-is.statement M
   read-stream = read-stream-met.met
+
+  pub write-stream : write-stream-is.statement M
+  write-stream = write-stream-met.met
 
   pub start : start-is.statement M
   start = start-met.met
@@ -118,6 +125,9 @@ module _ {M : Type 1} where
 
   pub pb-read : pb-read-is.statement M
   pb-read = pb-read-met.met
+
+  pub pb-write : pb-write-is.statement M
+  pb-write = pb-write-met.met
 
   pub pb-start : pb-start-is.statement M
   pb-start = pb-start-met.met

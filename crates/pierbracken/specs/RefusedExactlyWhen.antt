@@ -1,4 +1,4 @@
--- Demand 1: every public call refuses bad input by the paper's numbers, in the paper's order: each number exactly when its condition holds and none before it does.
+-- Demand 1: every public call refuses bad input by the paper's numbers, in the paper's order: each number exactly when its condition holds and none before it does. Those of the writer stand in `Writing`.
 use Prim.Native.Nat.{ℕ, _<_}
 use mathlib.Core.Path.{_≡_, sym, _∙_}
 use mathlib.Core.Bool.{false}
@@ -83,7 +83,7 @@ use Rattle.pierbracken.specs.FromC as from-c
 
 -- ---- the definitions
 -- what is said of one of two equal answers is said of the other
-through {ℓ} : {A : Type ℓ} {P : A → Type 0} {a b : A} → a ≡ b → ((x : A) → (b ≡ x) ↔ P x) → (x : A) → (a ≡ x) ↔ P x
+pub through {ℓ} : {A : Type ℓ} {P : A → Type 0} {a b : A} → a ≡ b → ((x : A) → (b ≡ x) ↔ P x) → (x : A) → (a ≡ x) ↔ P x
 through e says x = (λ p. says x .0 (sym e ∙ p), λ h. e ∙ says x .1 h)
 
 -- "Mass: 9, then 10"
@@ -134,7 +134,7 @@ pub record RefusedAs
   pub exactly : (κs : L) (inputs : In κs) (x : Out κs) (e : Exit κs) → allows κs inputs x e → (y : Y) → (look κs x ≡ y) ↔ outcome κs inputs y
 
 -- a law of the definition holds of the call
-of-call :
+pub of-call :
     {Y Left L : Type 0} {In Out Exit : L → Type 0}
     {asks : (κs : L) → In κs → Type 0}
     {allows : (κs : L) → In κs → Out κs → Exit κs → Type 0}
