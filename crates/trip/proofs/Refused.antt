@@ -2,7 +2,7 @@
 -- Assumes nothing.
 use Prim.Native.Nat.{ℕ, _≤_}
 use mathlib.Core.Path.{_≡_, refl, _∙_, ap}
-use mathlib.Core.Bool.{Bool, true, false}
+use mathlib.Core.Bool.{false}
 use mathlib.Core.Logic.{_↔_}
 use borrow.Author.Tests.{ltb-true, ltb-false, lt-ltb, le-ltb}
 use Rattle.base.specs.declared.Plan.{Plan}
@@ -10,8 +10,8 @@ use Rattle.base.specs.Limits.{tripLimit}
 use Rattle.base.specs.Refusal.{outOfRange, fault}
 use Rattle.base.specs.Second.{tooMany}
 use Rattle.base.specs.declared.Fault.{Fault}
-use Rattle.second.specs.Lanes.{Lanes, secondsIn, lanesAgree, firstBadSecond}
-use Rattle.second.proofs.Lanes.{agree, agrees, not-agree}
+use Rattle.second.specs.Lanes.{Lanes, secondsIn, firstBadSecond}
+use Rattle.second.proofs.Lanes.{agree, agrees, not-agree, apart}
 use Rattle.second.proofs.Facts.{first-bad-at, is-first-bad, has-bad, all-in-range, has-no-bad, says-none, some-second, says-some}
 use Rattle.second.proofs.Facts as facts
 use Rattle.trip.specs.declared.Rooms.{Rooms}
@@ -53,11 +53,7 @@ module _ (plan : Plan) (trip : Lanes) (rooms : Rooms) where
   -- and nothing else is
   only-given : (x : Fault) → Given plan trip rooms x → tripFault plan trip rooms ≡ x
   only-given _ (plan-out-of-range p) = gives-plan plan trip rooms p
-  only-given _ (lanes-differ p q) = gives-differ plan trip rooms p (apart (lanesAgree trip) refl)
-    where
-      apart : (t : Bool) → lanesAgree trip ≡ t → lanesAgree trip ≡ false
-      apart true e = absurd (q (agree trip e))
-      apart false e = e
+  only-given _ (lanes-differ p q) = gives-differ plan trip rooms p (apart trip q)
   only-given _ (too-many p q r) = gives-many plan trip rooms p (agrees trip q) (lt-ltb tripLimit (secondsIn trip) r)
   only-given _ (lane-too-short p q r s) = gives-short plan trip rooms p (agrees trip q) (le-ltb tripLimit (secondsIn trip) r) (says-short rooms (secondsIn trip) .back s)
   only-given _ (out-of-range p q r s i t) = gives-bad plan trip rooms p (agrees trip q) (le-ltb tripLimit (secondsIn trip) r) (room-enough rooms (secondsIn trip) s) (has-bad trip i t) ∙ ap (fault outOfRange) (is-first-bad trip i t)

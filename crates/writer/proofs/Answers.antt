@@ -4,17 +4,15 @@ use mathlib.Core.Path.{_≡_, refl, sym, _∙_, ap}
 use mathlib.Core.List.{List, _++_}
 use native.Mathlib.Nat.{zero-add}
 use native.Mathlib.Omega.{arith}
-use lib.Dec.{eqb}
 use lib.ListN.{length, drop}
 use lib.Seq.{sets, sets-eq}
-use borrow.Author.Tests.{eq-eqb, ne-eqb}
+use borrow.Author.Tests.{ne-eqb}
 use Rattle.base.specs.declared.Fault.{Fault}
 use Rattle.base.specs.declared.Plan.{Plan}
 use Rattle.base.specs.Refusal.{fault}
 use Rattle.base.specs.InFront.{InFront}
 use Rattle.base.proofs.InFront.{in-front}
 use Rattle.second.specs.Lanes.{Lanes}
-use Rattle.writer.specs.declared.WriteAnswer.{WriteAnswer}
 use Rattle.writer.specs.Writing.{streamOf, writeFault, writeOf, bufferAfter}
 use Rattle.writer.specs.Outcomes.{none}
 use Rattle.writer.proofs.Refused.{accepts, refused-exactly}
