@@ -2,7 +2,7 @@
 # with `#:` is a line of `make help`, which `make` alone prints too.
 
 .DEFAULT_GOAL := help
-.PHONY: help test judge judge-as trim lib bench soak readings
+.PHONY: help test judge judge-as trim lib bench soak readings moved
 
 # The names of files reach the scripts through the environment, as they were typed: `make` would
 # take a `$` for its own, and the shell a quote. SECONDS has another name there: some shells have a
@@ -48,3 +48,7 @@ soak:
 #: make readings                      the wrong readings that the tests tell
 readings:
 	@tools/readings
+
+#: make moved                         what the newest release moved, on realistic trips
+moved:
+	@tools/moved

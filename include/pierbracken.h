@@ -28,7 +28,7 @@
 extern "C" {
 #endif
 
-#define PB_RELEASE 1          /* the release of the meaning that this header was written for */
+#define PB_RELEASE 2          /* the release of the meaning that this header was written for */
 #define PB_TRIP_MOST 8192     /* seconds of the longest trip, and places enough for any lane */
 #define PB_STREAM_MOST 122901 /* bytes of the longest stream: a plan and PB_TRIP_MOST seconds */
 

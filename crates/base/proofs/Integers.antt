@@ -1,11 +1,12 @@
 -- Laws of `subℕ a b`, the integer a - b of two natural numbers: with them a goal on integers becomes one for `omega`. Assumes nothing.
-use Prim.Native.Nat.{ℕ, zero, suc, _+_, _-_, _≤_, _<_}
-use mathlib.Core.Path.{_≡_, refl, sym, _∙_, ap}
+use Prim.Native.Nat.{ℕ, zero, suc, _+_, _-_, _*_, _≤_, _<_}
+use mathlib.Core.Path.{_≡_, refl, sym, _∙_, ap, ap₂}
 use mathlib.Core.Bool.{Bool, true, false, not}
+use native.Mathlib.Nat.{mul-add, add-mul}
 use native.Mathlib.Omega.{arith}
 use borrow.Author.Tests.{ltb-true, ltb-false, leb-true, leb-false, lt-ltb, le-ltb, le-leb, lt-leb}
 use lib.Dec.{leb, ltb}
-use lib.IntN.{ℤ, pos, negsuc, natAbs, subℕ, _-ℤ_}
+use lib.IntN.{ℤ, pos, negsuc, natAbs, negℤ, subℕ, _+ℤ_, _-ℤ_, _*ℤ_}
 use lib.Signed.{leZ, ltZ}
 
 -- by the order of the two
@@ -67,8 +68,33 @@ sub-minus a b c d =
 pub sub-minus-same : (a b k : ℕ) → subℕ a k -ℤ subℕ b k ≡ subℕ a b
 sub-minus-same a b k = sub-minus a k b k ∙ sub-same (a + k) (k + b) a b (omega arith)
 
+-- the sum of two differences
+pub sub-plus : (a b c d : ℕ) → subℕ a b +ℤ subℕ c d ≡ subℕ (a + c) (b + d)
+sub-plus a b c d =
+    sub-ways-two (λ y z. y +ℤ z ≡ subℕ (a + c) (b + d)) a b c d
+    (λ (h : a < b) (k : c < d). negsuc-is _ (a + c) (b + d) (omega arith))
+    (λ (h : a < b) (k : d ≤ c). sub-same (c - d) (suc (b - suc a)) (a + c) (b + d) (omega arith))
+    (λ (h : b ≤ a) (k : c < d). sub-same (a - b) (suc (d - suc c)) (a + c) (b + d) (omega arith))
+    (λ (h : b ≤ a) (k : d ≤ c). pos-is _ (a + c) (b + d) (omega arith))
+
+-- their product: (a - b)(c - d) is ac + bd less ad + bc
+crossed : (a b c d x y : ℕ) → b + x ≡ a → d + y ≡ c → x * y + (a * d + b * c) ≡ a * c + b * d
+crossed a b c d x y p q = rw (sym p, sym q) (simp (mul-add, add-mul) (omega arith))
+
+negated : (n a b : ℕ) → n + a ≡ b → negℤ (pos n) ≡ subℕ a b
+negated zero a b e = pos-is 0 a b (omega arith)
+negated (suc n) a b e = negsuc-is n a b e
+
+pub sub-times : (a b c d : ℕ) → subℕ a b *ℤ subℕ c d ≡ subℕ (a * c + b * d) (a * d + b * c)
+sub-times a b c d =
+    sub-ways-two (λ y z. y *ℤ z ≡ subℕ (a * c + b * d) (a * d + b * c)) a b c d
+    (λ (h : a < b) (k : c < d). pos-is (suc (b - suc a) * suc (d - suc c)) (a * c + b * d) (a * d + b * c) (omega (arith, crossed b a d c (suc (b - suc a)) (suc (d - suc c)) (omega arith) (omega arith))))
+    (λ (h : a < b) (k : d ≤ c). negated (suc (b - suc a) * (c - d)) (a * c + b * d) (a * d + b * c) (omega (arith, crossed b a c d (suc (b - suc a)) (c - d) (omega arith) (omega arith))))
+    (λ (h : b ≤ a) (k : c < d). negated ((a - b) * suc (d - suc c)) (a * c + b * d) (a * d + b * c) (omega (arith, crossed a b d c (a - b) (suc (d - suc c)) (omega arith) (omega arith))))
+    (λ (h : b ≤ a) (k : d ≤ c). pos-is ((a - b) * (c - d)) (a * c + b * d) (a * d + b * c) (omega (arith, crossed a b c d (a - b) (c - d) (omega arith) (omega arith))))
+
 -- two tests of order agree
-leb-same : (a b c d : ℕ) → (a ≤ b → c ≤ d) → (b < a → d < c) → leb a b ≡ leb c d
+pub leb-same : (a b c d : ℕ) → (a ≤ b → c ≤ d) → (b < a → d < c) → leb a b ≡ leb c d
 leb-same a b c d up down = go (leb a b) refl
   where
     go : (t : Bool) → leb a b ≡ t → leb a b ≡ leb c d
@@ -97,8 +123,13 @@ sub-at-most a b k = sub-ways-two (λ y z. leZ y z ≡ leb a b) a k b k both-down
         (λ (j : a - k ≤ b - k). omega arith)
         (λ (j : b - k < a - k). omega arith)
 
+-- any two differences are ordered as what each has and the other lacks
+pub sub-order : (a b c d : ℕ) → leZ (subℕ a b) (subℕ c d) ≡ leb (a + d) (c + b)
+sub-order a b c d =
+    ap₂ leZ (sub-same a b (a + d) (b + d) (omega arith)) (sub-same c d (c + b) (b + d) (omega arith)) ∙ sub-at-most (a + d) (c + b) (b + d)
+
 -- below is not at least
-ltb-is : (a b : ℕ) → ltb a b ≡ not (leb b a)
+pub ltb-is : (a b : ℕ) → ltb a b ≡ not (leb b a)
 ltb-is a b = go (leb b a) refl
   where
     go : (t : Bool) → leb b a ≡ t → ltb a b ≡ not t

@@ -11,5 +11,6 @@ pub mod Search
 pub mod Store
 pub mod Products
 pub mod Integers
+pub mod Fractions
 pub mod Altitude
 pub mod InFront

@@ -5,5 +5,6 @@ pub mod Roads
 pub mod Second
 pub mod Plan
 pub mod Words
+pub mod Fraction
 pub mod InFront
 pub mod Inside

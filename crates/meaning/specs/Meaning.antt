@@ -2,4 +2,4 @@
 use Prim.Native.Nat.{ℕ}
 
 abbrev pub releaseOfMeaning : ℕ
-releaseOfMeaning = 1
+releaseOfMeaning = 2

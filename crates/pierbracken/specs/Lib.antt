@@ -6,6 +6,7 @@ pub mod RefusedExactlyWhen
 pub mod NothingElseWritten
 pub mod Windows
 pub mod Verdict
+pub mod Band
 pub mod Sums
 pub mod Dynamics
 pub mod Blocks

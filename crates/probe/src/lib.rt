@@ -25,12 +25,12 @@ pub extern "C" fn probe_too_dull(s: u32, n: u32, t: u64) -> bool
 // A window judged.
 #[repr(C)]
 pub struct WindowProbe {
-    pub judged: bool, // whether the plan is in range and a trip can have such a window
+    pub judged: bool, // whether the plan is in range and there can be such a window
     pub inside: bool,
     pub class: usize, // 0 urban, 1 rural, 2 motorway, 3 none
 }
 
-// A window of any mass, and of any length and sum of speeds that a trip can have.
+// A window of any sum of speeds and mass above 0, and of any length that the comparisons have room for.
 #[no_mangle]
 pub extern "C" fn probe_window(plan: Plan, s: u32, m: u32, n: usize) -> WindowProbe
     ensures { λ r. ⌜ r ≡ windowProbe plan s m n ⌝ }
@@ -38,7 +38,7 @@ pub extern "C" fn probe_window(plan: Plan, s: u32, m: u32, n: usize) -> WindowPr
     if !base::plan_in_range(plan) {
         return NOT_JUDGED;
     }
-    if !window_in_range(s, n) {
+    if !window_in_range(s, m, n) {
         return NOT_JUDGED;
     }
     let figure = windows::judge(plan, s, m, n);
@@ -49,14 +49,11 @@ pub extern "C" fn probe_window(plan: Plan, s: u32, m: u32, n: usize) -> WindowPr
     }
 }
 
-// The highest sum of speeds.
-const SPEEDS: u32 = base::limits::TRIP as u32 * base::limits::SPEED as u32;
-
-// Whether a trip can have a window of this sum of speeds and length.
-fn window_in_range(s: u32, n: usize) -> bool
-    ensures { λ r. ⌜ r ≡ windowInRange s n ⌝ }
+// Whether there can be a window of this sum of speeds, mass and length.
+fn window_in_range(s: u32, m: u32, n: usize) -> bool
+    ensures { λ r. ⌜ r ≡ windowInRange s m n ⌝ }
 {
-    (1 <= n) & (n <= base::limits::TRIP) & (1 <= s) & (s <= SPEEDS)
+    (1 <= n) & (n <= windows::WINDOW_MOST) & (1 <= s) & (1 <= m)
 }
 
 const NOT_JUDGED: WindowProbe = WindowProbe {

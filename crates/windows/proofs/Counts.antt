@@ -18,7 +18,7 @@ use Rattle.windows.specs.Figure.{unclassed, meanSpeed, figureOf}
 use Rattle.windows.specs.Counts.{noCount, windowFigure, isOfClass, isInside, classCount}
 use Rattle.windows.specs.Inside.{WindowSeconds, SweptLanes, withWindow, countsOf}
 use Rattle.windows.proofs.Classes.{class-known}
-use Rattle.windows.proofs.Parts.{part-is, part-length, part-light, part-kept, part-moves, speeds-fit}
+use Rattle.windows.proofs.Parts.{part-is, part-length, part-light, part-kept, part-moves}
 use Rattle.windows.proofs.PlanRanges.{plan-ranges}
 
 -- four counts that are equal one by one
@@ -152,6 +152,15 @@ module _ (plan : Plan) (speeds co2 ends : List ℕ) (count : ℕ) (swept : Swept
         small = omega (arith, swept .same-length, swept .speeds-kept .few);
       }
 
+  -- it reaches a reference of at least 1, so it weighs something
+  turn-weighs : 0 < sum (take (getD ends f 0 - f) (drop f co2))
+  unfolding windowEnd
+  turn-weighs =
+      let t = turn in
+      let w = window (plan .reference) co2 f (t .has) in
+      rw (part-is f (getD ends f 0) co2, t .end)
+      (omega (arith, w .reaches, plan-ranges plan (swept .plan-in-range) .reference-least))
+
   -- the seconds of the window can be judged
   pub turn-seconds : WindowSeconds plan (take (getD ends f 0 - f) (drop f speeds)) (take (getD ends f 0 - f) (drop f co2))
   turn-seconds =
@@ -159,7 +168,7 @@ module _ (plan : Plan) (speeds co2 ends : List ℕ) (count : ℕ) (swept : Swept
       let n = part-length f (getD ends f 0) co2 (t .within) in
       let kept = part-kept f (getD ends f 0) speeds (omega arith) (t .within-too) (swept .speeds-kept) in
       record {
-        judgeable = record { plan-in-range = swept .plan-in-range; lasts = omega arith; few = omega (arith, swept .same-length, swept .speeds-kept .few); moves = part-moves f (getD ends f 0) speeds (t .some) (t .within-too) (swept .each-moves); no-faster = speeds-fit kept; light = omega (arith, part-light f (getD ends f 0) co2 (omega arith), swept .masses-fit) };
+        judgeable = record { plan-in-range = swept .plan-in-range; lasts = omega arith; few = omega (arith, swept .same-length, swept .speeds-kept .few); moves = part-moves f (getD ends f 0) speeds (t .some) (t .within-too) (swept .each-moves); weighs = turn-weighs; light = omega (arith, part-light f (getD ends f 0) co2 (omega arith), swept .masses-fit) };
         speeds-kept = kept;
       }
 

@@ -1,8 +1,8 @@
 -- The laws of figures and counts.
-pub mod Signs
-pub mod Curve
+pub mod Exact
 pub mod Band
 pub mod PlanRanges
 pub mod Classes
 pub mod Parts
 pub mod Counts
+pub mod Theorems

@@ -1,18 +1,18 @@
--- What a window is judged by (Appendix 5), from the plan, the sum S of its speeds, its CO2 m in mg and its length n.
--- A window has at least one second and each is kept, so n is at least 1 and S at least 100 n.
-use Prim.Native.Nat.{ℕ, _*_, _/_}
+-- What a window is judged by (Appendix 5), from the plan, the sum S of its speeds, its CO2 m in mg and its length n, on exact
+-- fractions: change request L2, "The rounding of mean speed, curve and window figure in document 01 is ours and the package does not
+-- have it." A window has at least one second, each is kept, and it reaches the reference: n and m are at least 1 and S at least 100 n.
+use Prim.Native.Nat.{ℕ, _+_, _-_, _*_}
 use mathlib.Core.Bool.{Bool, false, _&&_}
-use lib.Dec.{leb, ltb, eqb}
-use lib.IntN.{ℤ, pos, negsuc, _+ℤ_, _-ℤ_, _*ℤ_}
-use lib.Signed.{leZ}
+use lib.Dec.{eqb}
 use Rattle.base.specs.declared.Plan.{Plan}
+use Rattle.base.specs.Fraction.{Fraction, whole, plus, minus, times, over, atMost, below}
 use Rattle.base.specs.Roads.{urban, rural, motorway}
 use Rattle.base.specs.Words.{pick}
 use Rattle.windows.specs.declared.Figure.{Figure}
 
--- "mean speed is v = floor(10S/n) in 0.001 km/h"
-abbrev pub meanSpeed : ℕ → ℕ → ℕ
-meanSpeed s n = 10 * s / n
+-- "mean speed is v = .. 10S/n .. in 0.001 km/h"; "the exact mean"
+abbrev pub meanSpeed : ℕ → ℕ → Fraction
+meanSpeed s n = over (whole (10 * s)) n
 
 -- beside the three classes, the number of a window that has none
 abbrev pub unclassed : ℕ
@@ -28,20 +28,18 @@ ruralBelow = 80_000
 abbrev pub motorwayBelow : ℕ
 motorwayBelow = 145_000
 
-unfoldable pub classOf : ℕ → ℕ
-classOf v = pick (ltb v urbanBelow) urban (pick (ltb v ruralBelow) rural (pick (ltb v motorwayBelow) motorway unclassed))
+unfoldable pub classOf : Fraction → ℕ
+classOf v =
+    pick (below v (whole urbanBelow)) urban
+    (pick (below v (whole ruralBelow)) rural
+    (pick (below v (whole motorwayBelow)) motorway unclassed))
 
--- the quotient by w, "floor towards minus infinity"; `negsuc a` is -(a + 1)
-unfoldable pub floorBy : ℤ → ℕ → ℤ
-floorBy (pos a) w = pos (a / w)
-floorBy (negsuc a) w = negsuc (a / w)
+-- "the unrounded line at the exact mean", from the value e at speed a to the value f at speed a + w: e + (f-e)(v-a)/w
+unfoldable pub lineAt : ℕ → ℕ → ℕ → ℕ → Fraction → Fraction
+lineAt e f a w v = plus (whole e) (over (times (minus (whole f) (whole e)) (minus v (whole a))) w)
 
--- the line from the value e at speed a to the value f at speed a + w
-unfoldable pub lineAt : ℕ → ℕ → ℕ → ℕ → ℕ → ℤ
-lineAt e f a w v = pos e +ℤ floorBy ((pos f -ℤ pos e) *ℤ (pos v -ℤ pos a)) w
-
--- "for v up to 56,664, E1 + floor((E2-E1)(v-18,882)/37,782), also below 18,882; beyond, E2 + floor((E3-E2)(v-56,664)/35,333)":
--- the mean speeds of E1 and of E2, and from each to the next
+-- "for v up to 56,664, E1 + .. (E2-E1)(v-18,882)/37,782, also below 18,882; beyond, E2 + .. (E3-E2)(v-56,664)/35,333", "(the first
+-- up to 56,664 itself)": the mean speeds of E1 and of E2, and from each to the next
 abbrev pub speedOfE1 : ℕ
 speedOfE1 = 18_882
 
@@ -54,18 +52,21 @@ speedOfE2 = 56_664
 abbrev pub fromE2ToE3 : ℕ
 fromE2ToE3 = 35_333
 
-unfoldable pub curve : Plan → ℕ → ℤ
+unfoldable pub curve : Plan → Fraction → Fraction
 curve plan v =
-    pick (leb v speedOfE2) (lineAt (plan .e1) (plan .e2) speedOfE1 fromE1ToE2 v) (lineAt (plan .e2) (plan .e3) speedOfE2 fromE2ToE3 v)
+    pick (atMost v (whole speedOfE2))
+    (lineAt (plan .e1) (plan .e2) speedOfE1 fromE1ToE2 v)
+    (lineAt (plan .e2) (plan .e3) speedOfE2 fromE2ToE3 v)
 
--- "Window figure w = floor(360,000 m / S), m its CO2 in mg."
-abbrev pub massPerKm : ℕ → ℕ → ℕ
-massPerKm s m = 360_000 * m / s
+-- "Window figure w = .. 360,000 m / S .., m its CO2 in mg."; "the window figure is the exact quotient"
+abbrev pub massPerKm : ℕ → ℕ → Fraction
+massPerKm s m = over (whole (360_000 * m)) s
 
--- "Inside: 100w at least (100-lower)c and at most (100+upper)c."
-unfoldable pub inBand : ℕ → ℕ → ℤ → ℕ → Bool
+-- "Inside: 100w at least (100-lower)c and at most (100+upper)c."; "both comparisons are made by cross-multiplying"
+unfoldable pub inBand : ℕ → ℕ → Fraction → Fraction → Bool
 inBand lower upper c w =
-    leZ ((pos 100 -ℤ pos lower) *ℤ c) (pos (100 * w)) && leZ (pos (100 * w)) ((pos 100 +ℤ pos upper) *ℤ c)
+    atMost (times (whole (100 - lower)) c) (times (whole 100) w)
+    && atMost (times (whole 100) w) (times (whole (100 + upper)) c)
 
 -- "upper tolerances for urban, rural, motorway"
 unfoldable pub upperOf : Plan → ℕ → ℕ

@@ -3,8 +3,10 @@ use Prim.Native.Nat.{ℕ, _+_, _*_, _^_, _≤_, _<_}
 use mathlib.Core.Path.{_≡_}
 use mathlib.Core.Bool.{Bool, true}
 use mathlib.Core.List.{List, [], _∷_}
+use lib.IntN.{subℕ}
 use lib.ListN.{length, getD}
 use Rattle.base.specs.declared.Plan.{Plan}
+use Rattle.base.specs.Fraction.{Fraction, fraction}
 use Rattle.base.specs.Limits.{tripLimit, speedMost, curveMost}
 use Rattle.base.specs.Plan.{planInRange}
 use Rattle.base.specs.Roads.{urban, rural, motorway}
@@ -12,30 +14,42 @@ use Rattle.base.specs.Words.{pick, sum}
 use Rattle.kept.specs.Kept.{keptSpeedLeast}
 use Rattle.sweep.specs.Window.{windowEnd, windows}
 use Rattle.windows.specs.declared.ClassCount.{ClassCount}
-use Rattle.windows.specs.Figure.{unclassed, motorwayBelow, speedOfE2, fromE1ToE2, fromE2ToE3}
+use Rattle.windows.specs.declared.Curve.{Curve}
+use Rattle.windows.specs.Figure.{unclassed, motorwayBelow, speedOfE2, fromE1ToE2}
 use Rattle.windows.specs.Counts.{classCount}
 
--- by how much the code raises the curve, so that it never falls below 0
-abbrev pub raisedBy : ℕ
-raisedBy = 16_777_216
+-- the most seconds of a window that the exact comparisons have room for, whatever the limit of a trip
+abbrev pub windowMost : ℕ
+windowMost = 32_768
 
--- what one line of the curve is given
-pub record LineGiven (e f a w v : ℕ) : Type 0 where
+-- what one line of the curve is given: a mean speed that has a class
+pub record LineGiven (e f a w s n : ℕ) : Type 0 where
   pub e-most : e ≤ curveMost
   pub f-most : f ≤ curveMost
   pub a-most : a ≤ speedOfE2
-  pub w-least : fromE2ToE3 ≤ w
+  pub w-least : 0 < w
   pub w-most : w ≤ fromE1ToE2
-  pub v-most : v < motorwayBelow
+  pub lasts : 0 < n
+  pub few : n ≤ windowMost
+  pub classed : 10 * s < motorwayBelow * n
 
--- what judging one window is given: a plan in range, seconds that are at most a trip's, speeds that move and that so many seconds
--- can have, and a mass that fits a u32
+-- the curve as the code holds it, a difference not yet taken over a denominator
+unfoldable pub heldAs : Curve → Fraction
+heldAs c = fraction (subℕ (c .above) (c .under)) (c .over)
+
+-- the room that the comparisons have for it, and a denominator above zero
+pub record CurveRoom (c : Curve) : Type 0 where
+  pub above-most : c .above ≤ 2 ^ 54
+  pub over-least : 0 < c .over
+
+-- what judging one window is given: a plan in range, seconds, speeds that move, and a mass, as a window has that reaches its
+-- reference; the mass fits a u32
 pub record Judgeable (plan : Plan) (s m n : ℕ) : Type 0 where
   pub plan-in-range : planInRange plan ≡ true
   pub lasts : 0 < n
-  pub few : n ≤ tripLimit
+  pub few : n ≤ windowMost
   pub moves : 0 < s
-  pub no-faster : s ≤ tripLimit * speedMost
+  pub weighs : 0 < m
   pub light : m < 2 ^ 32
 
 -- at most a trip's speeds, each in its range

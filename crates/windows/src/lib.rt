@@ -5,14 +5,16 @@
 use base::Plan;
 ghost use mathlib.Core.Path.{_≡_};
 ghost use mathlib.Core.Bool.{true};
-ghost use Prim.Native.Nat.{_^_, _<_, _≤_};
-ghost use lib.IntN.{subℕ};
+ghost use Prim.Native.Nat.{_*_, _^_, _<_, _≤_};
 ghost use lib.ListN.{length};
 ghost use Rattle.base.specs.Limits.{toleranceMost};
 ghost use Rattle.base.specs.Plan.{planInRange};
 ghost use Rattle.base.specs.Words.{pick, sum};
-ghost use Rattle.windows.specs.Figure.{motorwayBelow, classOf, lineAt, curve, inBand, upperOf, figureOf};
-ghost use Rattle.windows.specs.Inside.{raisedBy, LineGiven, Judgeable, KeptSpeeds, WindowSeconds, SweptLanes, withWindow, countsOf};
+ghost use Rattle.windows.specs.Figure.{meanSpeed, motorwayBelow, classOf, lineAt, curve, massPerKm, inBand, upperOf, figureOf};
+ghost use Rattle.windows.specs.Inside.{windowMost, LineGiven, heldAs, CurveRoom, Judgeable, KeptSpeeds, WindowSeconds, SweptLanes, withWindow, countsOf};
+
+// The most seconds of a window that can be judged, whatever the limit of a trip.
+pub const WINDOW_MOST: usize = 32_768;
 
 // Beside the three classes, the number of a window that has none; each indexes the counts.
 pub const UNCLASSED: usize = 3;
@@ -87,30 +89,37 @@ pub fn judge(plan: Plan, s: u32, m: u32, n: usize) -> Figure
     requires { ⌜ Judgeable plan s m n ⌝ }
     ensures { λ r. ⌜ r ≡ figureOf plan s m n ⌝ }
 {
-    let v = 10 * (s as u64) / (n as u64);
-    let class = class_of(v);
+    let class = class_of(s, n);
     if class == UNCLASSED {
         return Figure {
             class,
             inside: false,
         };
     }
-    let w = 360_000 * (m as u64) / (s as u64);
-    let inside = in_band(plan.lower, upper_of(plan, class), raised_curve(plan, v), w);
+    let inside = in_band(
+        plan.lower,
+        upper_of(plan, class),
+        curve_at(plan, s, n),
+        s,
+        m,
+    );
     Figure { class, inside }
 }
 
-// The class of a mean speed in 0.001 km/h.
-fn class_of(v: u64) -> usize
-    ensures { λ r. ⌜ r ≡ classOf v ⌝ }
+// The class of the mean speed 10s/n, compared by cross-multiplying.
+fn class_of(s: u32, n: usize) -> usize
+    requires { ⌜ n ≤ windowMost ⌝ }
+    ensures { λ r. ⌜ r ≡ classOf (meanSpeed s n) ⌝ }
 {
-    if v < URBAN_BELOW {
+    let speeds = 10 * (s as u64);
+    let seconds = n as u64;
+    if speeds < URBAN_BELOW * seconds {
         return base::road::URBAN;
     }
-    if v < RURAL_BELOW {
+    if speeds < RURAL_BELOW * seconds {
         return base::road::RURAL;
     }
-    if v < MOTORWAY_BELOW {
+    if speeds < MOTORWAY_BELOW * seconds {
         return base::road::MOTORWAY;
     }
     UNCLASSED
@@ -129,41 +138,62 @@ fn upper_of(plan: Plan, class: usize) -> u8
     plan.motorway
 }
 
-// The curve can be negative: it is held raised by this much.
-const RAISED_BY: u64 = 16_777_216;
-
-// The curve at a mean speed that has a class, raised.
-fn raised_curve(plan: Plan, v: u64) -> u64
-    requires { ⌜ (planInRange plan ≡ true) × (v < motorwayBelow) ⌝ }
-    ensures { λ r. ⌜ (subℕ r raisedBy ≡ curve plan v) × (r < 2 ^ 41) ⌝ }
-{
-    if v <= SPEED_OF_E2 {
-        return raised_line(plan.e1, plan.e2, SPEED_OF_E1, FROM_E1_TO_E2, v);
-    }
-    raised_line(plan.e2, plan.e3, SPEED_OF_E2, FROM_E2_TO_E3, v)
+// The curve at a mean speed: (above - under) / over. It can be negative, so the difference is not
+// taken before the sign is known.
+struct Curve {
+    above: u64,
+    under: u64,
+    over: u64,
 }
 
-// The line from the value e at speed a to the value f at speed a + w, raised: what (f - e)(v - a)
-// takes away is taken away last, so nothing falls below 0 and the quotient is cut downwards.
-fn raised_line(e: u32, f: u32, a: u64, w: u64, v: u64) -> u64
-    requires { ⌜ LineGiven e f a w v ⌝ }
-    ensures { λ r. ⌜ (subℕ r raisedBy ≡ lineAt e f a w v) × (r < 2 ^ 41) ⌝ }
+// The curve at the mean speed 10s/n, one that has a class.
+fn curve_at(plan: Plan, s: u32, n: usize) -> Curve
+    requires { ⌜ (planInRange plan ≡ true) × (0 < n) × (n ≤ windowMost) × (10 * s < motorwayBelow * n) ⌝ }
+    ensures { λ r. ⌜ (heldAs r ≡ curve plan (meanSpeed s n)) × CurveRoom r ⌝ }
+{
+    if 10 * (s as u64) <= SPEED_OF_E2 * (n as u64) {
+        return line_at(plan.e1, plan.e2, SPEED_OF_E1, FROM_E1_TO_E2, s, n);
+    }
+    line_at(plan.e2, plan.e3, SPEED_OF_E2, FROM_E2_TO_E3, s, n)
+}
+
+// The line from the value e at speed a to the value f at speed a + w: e + (f - e)(10s/n - a) / w.
+fn line_at(e: u32, f: u32, a: u64, w: u64, s: u32, n: usize) -> Curve
+    requires { ⌜ LineGiven e f a w s n ⌝ }
+    ensures { λ r. ⌜ (heldAs r ≡ lineAt e f a w (meanSpeed s n)) × CurveRoom r ⌝ }
 {
     let e = e as u64;
     let f = f as u64;
-    (f * v + e * a + (e + RAISED_BY) * w - (f * a + e * v)) / w
+    let speeds = 10 * (s as u64);
+    let from = a * (n as u64);
+    let over = w * (n as u64);
+    Curve {
+        above: e * (over + from) + f * speeds,
+        under: e * speeds + f * from,
+        over,
+    }
 }
 
-// Whether 100w is from (100 - lower)c to (100 + upper)c, c the curve.
-fn in_band(lower: u8, upper: u8, raised: u64, w: u64) -> bool
-    requires { ⌜ (lower ≤ toleranceMost) × (raised < 2 ^ 41) × (w < 2 ^ 51) ⌝ }
-    ensures { λ r. ⌜ r ≡ inBand lower upper (subℕ raised raisedBy) w ⌝ }
+// Whether 100w is from (100 - lower)c to (100 + upper)c, c the curve and w the figure 360,000m/s:
+// multiplied by both denominators, in two words.
+fn in_band(lower: u8, upper: u8, curve: Curve, s: u32, m: u32) -> bool
+    requires { ⌜ (lower ≤ toleranceMost) × CurveRoom curve × (0 < s) × (0 < m) ⌝ }
+    ensures { λ r. ⌜ r ≡ inBand lower upper (heldAs curve) (massPerKm s m) ⌝ }
 {
-    if raised < RAISED_BY {
+    let above = curve.above;
+    let under = curve.under;
+    let over = curve.over;
+    if above <= under {
         return false;
     }
-    let c = raised - RAISED_BY;
-    ((100 - lower as u64) * c <= 100 * w) & (100 * w <= (100 + upper as u64) * c)
+    let c = above - under;
+    let figure = wide::product(100 * 360_000 * (m as u64), over);
+    let least = wide::product((100 - lower as u64) * c, s as u64);
+    if wide::less(figure, least) {
+        return false;
+    }
+    let most = wide::product((100 + upper as u64) * c, s as u64);
+    !wide::less(most, figure)
 }
 
 // The sum of kept speeds. Both halves are added at once, in half the steps: two speeds fit a u16.

@@ -113,27 +113,35 @@ fn sweep(reference: u32, co2: &[u32], ends: &mut [u16]) -> usize {
     }
 }
 
+/// A function of its own in the program too: put into `evaluate`, its two sums take half as long again.
+#[inline(never)]
 fn count_window(plan: &Plan, speeds: &[u16], co2: &[u32], classes: &mut [Class; 3]) {
     let s: u32 = speeds.iter().map(|&v| u32::from(v)).sum();
     let m: u32 = co2.iter().sum();
-    let v = 10 * u64::from(s) / speeds.len() as u64;
-    let (class, upper) = match v {
-        0..45_000 => (0, plan.urban),
-        45_000..80_000 => (1, plan.rural),
-        80_000..145_000 => (2, plan.motorway),
+    let n = speeds.len() as i64;
+    let (class, upper) = match 10 * i64::from(s) {
+        v if v < 45_000 * n => (0, plan.urban),
+        v if v < 80_000 * n => (1, plan.rural),
+        v if v < 145_000 * n => (2, plan.motorway),
         _ => return,
     };
-    let line = |e: u32, f: u32, a: i64, w: i64| {
-        i64::from(e) + ((i64::from(f) - i64::from(e)) * (v as i64 - a)).div_euclid(w)
+    // The curve at the exact mean, and what it is to be divided by.
+    let line = |e: u32, f: u32, from: i64, over: i64| {
+        let (e, f) = (i64::from(e), i64::from(f));
+        (
+            e * over * n + (f - e) * (10 * i64::from(s) - from * n),
+            over * n,
+        )
     };
-    let c = if v <= 56_664 {
+    let (c, over) = if 10 * i64::from(s) <= 56_664 * n {
         line(plan.e1, plan.e2, 18_882, 37_782)
     } else {
         line(plan.e2, plan.e3, 56_664, 35_333)
     };
-    let w = (360_000 * u64::from(m) / u64::from(s)) as i64;
     classes[class].windows += 1;
-    if 100 * w >= (100 - i64::from(plan.lower)) * c && 100 * w <= (100 + i64::from(upper)) * c {
+    let figure = i128::from(36_000_000 * i64::from(m)) * i128::from(over);
+    let end = |percent: i64| i128::from(percent * c) * i128::from(s);
+    if end(100 - i64::from(plan.lower)) <= figure && figure <= end(100 + i64::from(upper)) {
         classes[class].inside += 1;
     }
 }

@@ -18,11 +18,12 @@ struct Lanes {
     ranks: Vec<u32>,
 }
 
+/// A curve near what the drive emits: most windows are inside, so that both comparisons are made.
 const PLAN: Plan = Plan {
     reference: 2_700_000,
-    e1: 150_000,
-    e2: 140_000,
-    e3: 160_000,
+    e1: 90_000,
+    e2: 72_000,
+    e3: 66_000,
     lower: 25,
     urban: 45,
     rural: 40,
@@ -92,6 +93,8 @@ fn figures() {
     });
     let answer = evaluate(PLAN, &mut ours);
     assert_eq!(evaluate(NO_WINDOWS, &mut ours).windows, 0);
+    let inside: u32 = answer.classes.iter().map(|class| class.inside).sum();
+    assert!(2 * inside > answer.windows);
     let name = format!(
         "the figures of {} windows of about {} s",
         answer.windows,

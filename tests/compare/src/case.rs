@@ -199,13 +199,7 @@ impl Case {
                 }
             }
             Case::Window { plan, s, m, n } => {
-                let sums = (i128::from(*s), i128::from(*m), *n as i128);
-                let found = windows::figures_of_sums(rules, plan, sums.0, sums.1, sums.2);
-                Answer::Window(WindowProbe {
-                    judged: true,
-                    inside: found.inside,
-                    class: found.class.unwrap_or(UNCLASSED),
-                })
+                Answer::Window(window_by_paper(rules, plan, *s, *m, *n))
             }
             Case::Trip(input) => trip_by_paper(rules, input),
             Case::Printed(bytes) => Answer::Printed(oracle::report::judge(rules, bytes)),
@@ -219,6 +213,14 @@ impl Answer {
         match self {
             Answer::Trip(answer, ..) if answer.refusal == 0 => Some(answer.verdict),
             _ => None,
+        }
+    }
+
+    /// The windows inside of a trip, of all classes.
+    pub fn inside(&self) -> u32 {
+        match self {
+            Answer::Trip(answer, ..) => answer.classes.iter().map(|class| class.inside).sum(),
+            _ => 0,
         }
     }
 }
@@ -374,6 +376,28 @@ fn percentile_of_paper(found: Result<i128, Refusal>) -> PercentileAnswer {
         }
     }
     answer
+}
+
+/// Whether the probe judges a window of these sums, if the plan is in range. It takes any sums of which
+/// there can be a window, and a window has at least 1 mg; for release 1 it took any mass, and of the
+/// others what a trip of 8,192 seconds can have.
+fn is_probed(rules: &Rules, s: u32, m: u32, n: usize) -> bool {
+    if rules.release == 1 {
+        return (1..=8_192).contains(&n) && (1..=8_192 * 25_000).contains(&s);
+    }
+    (1..=32_768).contains(&n) && s >= 1 && m >= 1
+}
+
+fn window_by_paper(rules: &Rules, plan: &Plan, s: u32, m: u32, n: usize) -> WindowProbe {
+    if !plan.in_range(rules) || !is_probed(rules, s, m, n) {
+        return WindowProbe::default();
+    }
+    let found = windows::figures_of_sums(rules, plan, s.into(), m.into(), n as i128);
+    WindowProbe {
+        judged: true,
+        inside: found.inside,
+        class: found.class.unwrap_or(UNCLASSED),
+    }
 }
 
 fn trip_by_library(input: &TripInput) -> Answer {

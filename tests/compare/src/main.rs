@@ -3,11 +3,14 @@
 //!     compare [--soak] [SEED]
 //!     compare --freeze
 //!     compare --readings
+//!     compare --moved [SEED]
 //!
 //! The build is held to the frozen set of the release that it names, and to chosen inputs of the calls
 //! that came after it; these are shown to tell every wrong reading, and then both sides are compared
 //! on many inputs. `--freeze` makes the set of a new release, `--readings` prints the wrong readings
-//! with what tells each.
+//! with what tells each, `--moved` what the newest release moved against the one before: windows,
+//! verdicts and reasons of realistic trips and of those on the borders, by the independent program
+//! alone.
 //!
 //! Each comparison prints how many inputs it tried and is one test; a difference is printed with
 //! its input, and the seed that brings it back. A soak goes on with seeds of its own, and runs the
@@ -20,9 +23,11 @@ mod bytes;
 mod case;
 mod chosen;
 mod dynamics;
+mod ends;
 mod frozen;
 mod lanes;
 mod mass;
+mod moved;
 mod probe;
 mod program;
 #[path = "../../progress.rs"]
@@ -54,13 +59,18 @@ fn main() {
     };
     let mut seed = SEED;
     let mut soak = false;
+    let mut moved = false;
     for word in std::env::args().skip(1) {
         match &word[..] {
             "--freeze" => std::process::exit(frozen::freeze(release, &rules)),
             "--readings" => return telling::print(&rules),
+            "--moved" => moved = true,
             "--soak" => soak = true,
             number => seed = number.parse().expect("the seed is a whole number"),
         }
+    }
+    if moved {
+        return moved::print(seed);
     }
     let mut account = Account::new(rules, seed);
     account.run(|account| compare_all(account, soak));

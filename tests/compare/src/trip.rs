@@ -88,9 +88,14 @@ fn bent(comparison: &mut Comparison, seed: u64) {
 /// Both sides of each border: they differ in the one reason alone, or in a figure and no reason.
 fn borders(comparison: &mut Comparison) {
     for pair in pairs() {
-        let (reason, besides) = (pair.reason, pair.besides);
+        let (reason, besides, fewer) = (pair.reason, pair.besides, pair.fewer_inside);
         let [within, beyond] = both_sides(pair);
         let [first, second] = [&within, &beyond].map(|side| comparison.case(&side.case));
+        if let Some(fewer) = fewer {
+            comparison.same(first.inside(), second.inside() + fewer, || {
+                format!("windows inside: {} and {}", within.name, beyond.name)
+            });
+        }
         let verdicts = (first.verdict(), second.verdict());
         let wanted = match reason {
             Some(bit) => (Some(besides), Some(besides | 1 << bit)),

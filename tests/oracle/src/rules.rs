@@ -11,6 +11,8 @@ use crate::numbers::{
 /// Everything that a reading of the paper fixes.
 #[derive(Clone, Debug)]
 pub struct Rules {
+    /// The number of the release; a wrong reading has that of the release that it misreads.
+    pub release: u32,
     pub ranges: Ranges,
     pub limits: Limits,
     pub states: States,
@@ -224,7 +226,8 @@ pub struct Line {
     pub ends: [usize; 2],
     pub from: i128,
     pub over: i128,
-    pub rounding: Rounding,
+    /// None where the line is not rounded.
+    pub rounding: Option<Rounding>,
 }
 
 /// "Inside: 100w at least (100-lower)c and at most (100+upper)c."
@@ -235,6 +238,13 @@ pub struct Band {
     pub of_upper: i128,
     pub least: Side,
     pub most: Side,
+}
+
+/// The two ends of the band, and the two comparisons with them.
+#[derive(Clone, Copy, Debug, PartialEq, Eq)]
+pub enum End {
+    Lower,
+    Upper,
 }
 
 /// "Kept seconds and windows".
@@ -251,14 +261,16 @@ pub struct WindowRules {
     pub places_spared: i128,
     /// "v = floor(10S/n)"
     pub mean_times: i128,
-    pub mean_rounding: Rounding,
+    /// None where the mean is not rounded.
+    pub mean_rounding: Option<Rounding>,
     pub classes: [Bound<i128>; 3],
     /// "for v up to 56,664"
     pub turn: Bound<i128>,
     pub lines: [Line; 2],
     /// "w = floor(360,000 m / S)"
     pub kilometre: i128,
-    pub figure_rounding: Rounding,
+    /// None where the figure is not rounded.
+    pub figure_rounding: Option<Rounding>,
     pub band: Band,
     /// Which upper tolerance each class has.
     pub tolerance_of: [usize; 3],
@@ -462,6 +474,13 @@ pub enum Slip {
     ZeroCurveNeverInside,
     CurveFlatBelowItsFirstPoint,
     TolerancesExchanged,
+    ClassByTheMeanRounded(Rounding),
+    CurveByTheMeanRounded(Rounding),
+    LineByTheMeanRounded(Rounding),
+    WholeFiguresInTheComparison(End),
+    EndOfTheBandRounded(End, Rounding),
+    ComparedAsReals,
+    ComparedIn64Bits,
     UnclassedWindowsNotCounted,
     NoDAtTheEndsOfTheTrip,
     OwnSpeedOutsideTheTrip,
@@ -528,12 +547,13 @@ pub enum Slip {
 }
 
 /// The newest release that the independent program answers by.
-pub const NEWEST: u32 = 1;
+pub const NEWEST: u32 = 2;
 
 /// The rules of a release of the meaning; none where there is no such release.
 pub fn release(number: u32) -> Option<Rules> {
     match number {
         1 => Some(release_1()),
+        2 => Some(release_2()),
         _ => None,
     }
 }
@@ -541,6 +561,7 @@ pub fn release(number: u32) -> Option<Rules> {
 /// The paper as it stands.
 fn release_1() -> Rules {
     Rules {
+        release: 1,
         ranges: ranges(),
         limits: Limits {
             stream: at_most(8_192),
@@ -608,6 +629,21 @@ fn release_1() -> Rules {
         slip: None,
         writer_alone: None,
     }
+}
+
+/// "Judge the band on the true fractions" (L2): "the curve is the unrounded line at the exact mean (the
+/// first up to 56,664 itself), the window figure is the exact quotient, and both comparisons are made
+/// by cross-multiplying".
+fn release_2() -> Rules {
+    let mut rules = release_1();
+    rules.release = 2;
+    let windows = &mut rules.windows;
+    windows.mean_rounding = None;
+    for line in &mut windows.lines {
+        line.rounding = None;
+    }
+    windows.figure_rounding = None;
+    rules
 }
 
 fn ranges() -> Ranges {
@@ -704,7 +740,7 @@ fn windows() -> WindowRules {
         first_number: 1,
         places_spared: 0,
         mean_times: 10,
-        mean_rounding: Rounding::Down,
+        mean_rounding: Some(Rounding::Down),
         classes: [below(45_000), below(80_000), below(145_000)],
         turn: at_most(56_664),
         lines: [
@@ -713,18 +749,18 @@ fn windows() -> WindowRules {
                 ends: [0, 1],
                 from: 18_882,
                 over: 37_782,
-                rounding: Rounding::Down,
+                rounding: Some(Rounding::Down),
             },
             // "E2 + floor((E3-E2)(v-56,664)/35,333)"
             Line {
                 ends: [1, 2],
                 from: 56_664,
                 over: 35_333,
-                rounding: Rounding::Down,
+                rounding: Some(Rounding::Down),
             },
         ],
         kilometre: 360_000,
-        figure_rounding: Rounding::Down,
+        figure_rounding: Some(Rounding::Down),
         band: Band {
             of_figure: 100,
             of_lower: 100,

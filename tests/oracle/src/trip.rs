@@ -241,7 +241,7 @@ pub fn figures(rules: &Rules, plan: &Plan, trip: TripLanes) -> Figures {
 }
 
 /// The same, the windows judged already.
-fn figures_by_windows(rules: &Rules, trip: TripLanes, judged: &[WindowFigures]) -> Figures {
+pub fn figures_by_windows(rules: &Rules, trip: TripLanes, judged: &[WindowFigures]) -> Figures {
     let reason = &rules.reasons;
     let corrected = corrected_altitudes(rules, trip);
     let products = products(rules, trip);

@@ -1,11 +1,14 @@
 //! "Kept seconds and windows".
 
-use crate::bound::Bound;
+use std::cmp::Ordering;
+
+use crate::bound::{Bound, Rounding};
+use crate::fraction::{fraction, whole, Fraction};
 use crate::numbers::{
     at_0, refuse, Plan, Refusal, LANE_TOO_SHORT, MOTORWAY, OUT_OF_RANGE, PLAN_OUT_OF_RANGE,
     STATE_NEVER_REACHED, TOO_MANY,
 };
-use crate::rules::{Rules, Slip};
+use crate::rules::{End, Line, Rules, Slip};
 use crate::second::{Second, TripLanes};
 
 /// "Kept: state 1 and speed at least 100."
@@ -253,63 +256,111 @@ pub fn sweep(
     Ok(SweepAnswer { state, moves })
 }
 
-/// "With S the sum of its speeds and n its length, mean speed is v = floor(10S/n) in 0.001 km/h."
-pub fn mean_speed(rules: &Rules, s: i128, n: i128) -> i128 {
+/// "With S the sum of its speeds and n its length, mean speed is v = floor(10S/n) in 0.001 km/h"; since
+/// L2 "the exact mean".
+pub fn mean_speed(rules: &Rules, s: i128, n: i128) -> Fraction {
     let windows = &rules.windows;
-    windows.mean_rounding.quotient(windows.mean_times * s, n)
+    fraction(windows.mean_times * s, n).rounded(windows.mean_rounding)
 }
 
 /// "Urban: v < 45,000. Rural: to below 80,000. Motorway: to below 145,000. Faster windows have no
 /// class."
-pub fn class(rules: &Rules, v: i128) -> Option<usize> {
+pub fn class(rules: &Rules, v: Fraction) -> Option<usize> {
+    let v = match rules.slip {
+        Some(Slip::ClassByTheMeanRounded(rounding)) => v.rounded(Some(rounding)),
+        _ => v,
+    };
     let classes = rules.windows.classes;
-    let found = classes.iter().position(|class| class.holds(v));
+    let found = classes.iter().position(|class| v.passes(class));
     if found.is_none() && rules.slips(Slip::FasterWindowsAreMotorway) {
         return Some(MOTORWAY);
     }
     found
 }
 
+/// Which line the curve takes: the first "for v up to 56,664"; since L2 "the first up to 56,664
+/// itself".
+fn line_at(rules: &Rules, v: Fraction) -> &Line {
+    let v = match rules.slip {
+        Some(Slip::LineByTheMeanRounded(rounding)) => v.rounded(Some(rounding)),
+        _ => v,
+    };
+    let [first, second] = &rules.windows.lines;
+    if v.passes(&rules.windows.turn) {
+        first
+    } else {
+        second
+    }
+}
+
 /// "Curve c, floor towards minus infinity: for v up to 56,664, E1 + floor((E2-E1)(v-18,882)/37,782),
-/// also below 18,882; beyond, E2 + floor((E3-E2)(v-56,664)/35,333)."
-pub fn curve(rules: &Rules, plan: &Plan, v: i128) -> i128 {
-    let windows = &rules.windows;
-    let line = &windows.lines[usize::from(!windows.turn.holds(v))];
+/// also below 18,882; beyond, E2 + floor((E3-E2)(v-56,664)/35,333)"; since L2 "the unrounded line at
+/// the exact mean".
+pub fn curve(rules: &Rules, plan: &Plan, v: Fraction) -> Fraction {
+    let v = match rules.slip {
+        Some(Slip::CurveByTheMeanRounded(rounding)) => v.rounded(Some(rounding)),
+        _ => v,
+    };
+    let line = line_at(rules, v);
     let [e, f] = line.ends.map(|end| i128::from(plan.curve()[end]));
-    let flat = v < line.from && rules.slips(Slip::CurveFlatBelowItsFirstPoint);
-    let v = if flat { line.from } else { v };
-    let c = e + line.rounding.quotient((f - e) * (v - line.from), line.over);
+    let flat = v < whole(line.from) && rules.slips(Slip::CurveFlatBelowItsFirstPoint);
+    let v = if flat { whole(line.from) } else { v };
+    let rise = v.plus(-line.from).times(f - e).over(line.over);
+    let c = rise.rounded(line.rounding).plus(e);
     if rules.slips(Slip::CurveWithoutSign) {
         return c.abs();
     }
     c
 }
 
-/// "Window figure w = floor(360,000 m / S), m its CO2 in mg."
-pub fn figure(rules: &Rules, m: i128, s: i128) -> i128 {
+/// "Window figure w = floor(360,000 m / S), m its CO2 in mg"; since L2 "the exact quotient".
+pub fn figure(rules: &Rules, m: i128, s: i128) -> Fraction {
     let windows = &rules.windows;
-    windows.figure_rounding.quotient(windows.kilometre * m, s)
+    fraction(windows.kilometre * m, s).rounded(windows.figure_rounding)
+}
+
+/// 100w compared with an end of the band, so many times c: "both comparisons are made by
+/// cross-multiplying" (L2).
+fn figure_to_end(rules: &Rules, end: End, w: Fraction, c: Fraction, times: i128) -> Ordering {
+    let of_figure = rules.windows.band.of_figure;
+    let (figure, border) = (w.times(of_figure), c.times(times));
+    match rules.slip {
+        Some(Slip::WholeFiguresInTheComparison(of)) if of == end => {
+            let [w, c] = [w, c].map(|number| number.rounded(Some(Rounding::Down)));
+            w.times(of_figure).cmp(&c.times(times))
+        }
+        Some(Slip::EndOfTheBandRounded(of, rounding)) if of == end => {
+            w.cmp(&border.over(of_figure).rounded(Some(rounding)))
+        }
+        Some(Slip::ComparedAsReals) => {
+            let figure = of_figure as f64 * w.real();
+            figure.total_cmp(&(times as f64 * c.real()))
+        }
+        Some(Slip::ComparedIn64Bits) => figure.cmp_in_64_bits(border),
+        _ => figure.cmp(&border),
+    }
 }
 
 /// "Inside: 100w at least (100-lower)c and at most (100+upper)c."
-pub fn is_inside(rules: &Rules, w: i128, c: i128, lower: u8, upper: u8) -> bool {
+pub fn is_inside(rules: &Rules, w: Fraction, c: Fraction, lower: u8, upper: u8) -> bool {
     let band = &rules.windows.band;
-    let at_least = (band.of_lower - i128::from(lower)) * c;
-    let at_most = (band.of_upper + i128::from(upper)) * c;
-    if c == 0 && rules.slips(Slip::ZeroCurveNeverInside) {
+    if c == whole(0) && rules.slips(Slip::ZeroCurveNeverInside) {
         return false;
     }
-    let figure = band.of_figure * w;
-    band.least.passes(figure.cmp(&at_least)) && band.most.passes(figure.cmp(&at_most))
+    let of_lower = band.of_lower - i128::from(lower);
+    let of_upper = band.of_upper + i128::from(upper);
+    let to_least = figure_to_end(rules, End::Lower, w, c, of_lower);
+    let to_most = figure_to_end(rules, End::Upper, w, c, of_upper);
+    band.least.passes(to_least) && band.most.passes(to_most)
 }
 
 /// What one window is judged by; one without a class is not inside.
 #[derive(Clone, Copy, Debug, PartialEq, Eq)]
 pub struct WindowFigures {
-    pub v: i128,
+    pub v: Fraction,
     pub class: Option<usize>,
-    pub c: i128,
-    pub w: i128,
+    pub c: Fraction,
+    pub w: Fraction,
     pub inside: bool,
 }
 

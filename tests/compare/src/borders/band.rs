@@ -1,12 +1,14 @@
 //! Reason 15 and the ends of the band around the curve.
 //!
 //! Each trip has six windows, two of each class. The curve is laid so that those of the other
-//! classes are inside and one window, the target, stands at an end of its band.
+//! classes are inside and one window, the target, stands at an end of its band: its mass is the last
+//! whole one within the end, which is a fraction.
 
 use oracle::Plan;
 
 use super::few_windows::{
-    distance, falling_drive, kept, last_at_mean, with_windows, Window, MASS, REFERENCE,
+    distance, falling_drive, kept, last_at_mean, with_slower_motorway, with_windows, Window, MASS,
+    REFERENCE,
 };
 use super::measure::{MOTORWAY, NAMES, RURAL, URBAN};
 use super::{Pair, Trip};
@@ -23,7 +25,12 @@ pub fn pairs() -> Vec<Pair> {
         }
     }
     pairs.push(on_falling_curve());
-    pairs
+    for end in [End::Lower, End::Upper] {
+        pairs.push(exactly_at_end(end));
+        pairs.push(beside_the_turn(56_663, "56,663 and 56,664", end));
+        pairs.push(beside_the_turn(56_664, "56,664 and 56,665", end));
+    }
+    pairs.into_iter().map(Pair::of_the_band).collect()
 }
 
 /// The ends of a band.
@@ -49,12 +56,24 @@ impl End {
         }
     }
 
-    /// The last mass that has the figure w, towards this end.
-    fn last_mass(self, w: i64, s: i64) -> i64 {
-        match self {
-            End::Lower => (w * s + 359_999) / 360_000,
-            End::Upper => ((w + 1) * s - 1) / 360_000,
+    /// The mass that is this end: "the window figure is the exact quotient, and both comparisons are made
+    /// by cross-multiplying".
+    fn mass(self, plan: &Plan, at: Extent) -> Exact {
+        let c = curve(plan, at);
+        Exact {
+            numerator: i128::from(self.percent()) * c.numerator * i128::from(at.s),
+            denominator: 36_000_000 * c.denominator,
         }
+    }
+
+    /// The last whole mass within this end.
+    fn last_mass(self, plan: &Plan, at: Extent) -> i64 {
+        let end = self.mass(plan, at);
+        let mass = match self {
+            End::Lower => -(-end.numerator).div_euclid(end.denominator),
+            End::Upper => end.numerator.div_euclid(end.denominator),
+        };
+        mass as i64
     }
 }
 
@@ -66,37 +85,49 @@ struct Extent {
 }
 
 impl Extent {
-    /// "mean speed is v = floor(10S/n)"
+    /// The whole part of its mean, near which the curve is laid.
     fn v(self) -> i64 {
         10 * self.s / self.n
     }
 
-    /// "Window figure w = floor(360,000 m / S)", of the usual mass.
+    /// The whole part of its figure, of the usual mass.
     fn w(self) -> i64 {
         360_000 * MASS / self.s
     }
 }
 
-/// Two windows of each class: motorway, rural, urban.
-fn six_windows(trip: &Trip) -> Vec<Window> {
+/// Two windows of each class: motorway, rural, urban; the mean of the second rural one is at least
+/// this.
+fn six_windows(trip: &Trip, second_rural: i64) -> Vec<Window> {
     let ends = [
         450,
         510,
         last_at_mean(trip, 2, 7_500),
-        last_at_mean(trip, 3, 5_900),
+        last_at_mean(trip, 3, second_rural),
         last_at_mean(trip, 4, 4_150),
         last_at_mean(trip, 5, 3_800),
     ];
     ends.map(|last| Window { last, mass: MASS }).into()
 }
 
-/// "Curve c, floor towards minus infinity".
-fn curve(plan: &Plan, v: i64) -> i64 {
-    let [e1, e2, e3] = [plan.e1, plan.e2, plan.e3].map(i64::from);
-    if v <= 56_664 {
-        e1 + ((e2 - e1) * (v - 18_882)).div_euclid(37_782)
+/// A fraction: a value of the curve, or a mass.
+struct Exact {
+    numerator: i128,
+    denominator: i128,
+}
+
+/// "the curve is the unrounded line at the exact mean (the first up to 56,664 itself)"
+fn curve(plan: &Plan, Extent { s, n }: Extent) -> Exact {
+    let [e1, e2, e3] = [plan.e1, plan.e2, plan.e3].map(i128::from);
+    let (s, n) = (i128::from(s), i128::from(n));
+    let line = |e: i128, f: i128, from: i128, over: i128| Exact {
+        numerator: e * over * n + (f - e) * (10 * s - from * n),
+        denominator: over * n,
+    };
+    if 10 * s <= 56_664 * n {
+        line(e1, e2, 18_882, 37_782)
     } else {
-        e2 + ((e3 - e2) * (v - 56_664)).div_euclid(35_333)
+        line(e2, e3, 56_664, 35_333)
     }
 }
 
@@ -124,16 +155,6 @@ fn plan_through(points: [(i64, i64); 3]) -> Plan {
     }
 }
 
-/// The plan with its curve a little higher, so that c at `v` times the percentage is whole.
-fn with_whole_end(mut plan: Plan, v: i64, end: End) -> Plan {
-    while curve(&plan, v) * end.percent() % 100 != 0 {
-        plan.e1 += 1;
-        plan.e2 += 1;
-        plan.e3 += 1;
-    }
-    plan
-}
-
 /// The place of the target among the six windows, so that its fellow is inside or outside as
 /// wanted. The second window of a class is lower in its band than the first; a rural one is higher,
 /// for there the curve falls faster than the figure.
@@ -153,7 +174,7 @@ fn plan_for(extents: &[Extent], target: usize, end: End) -> Plan {
     });
     let mut plan = plan_through(points);
     plan.upper[MOTORWAY - target / 2] = TOLERANCE as u8;
-    with_whole_end(plan, extents[target].v(), end)
+    plan
 }
 
 /// A plan whose curve falls to the target, a motorway window at the upper end of its band.
@@ -162,15 +183,34 @@ fn falling_plan_for(extents: &[Extent], target: usize, end: End) -> Plan {
     let c = extents[target].w() * 100 / end.percent();
     let (e1, e2) = (400_000, 300_000);
     let e3 = e2 - (e2 - c) * 35_333 / (v - 56_664);
-    let plan = Plan {
+    Plan {
         reference: REFERENCE as u32,
         e1: e1 as u32,
         e2: e2 as u32,
         e3: e3 as u32,
         lower: 100,
         upper: [60, 70, TOLERANCE as u8],
-    };
-    with_whole_end(plan, v, end)
+    }
+}
+
+/// What S is to be a multiple of, and c, so that an end of the band is a whole mass.
+const WHOLE_S: i64 = 36_000;
+const WHOLE_C: i64 = 100;
+
+/// A plan whose first line is flat, so that c is whole; the target is an urban window.
+fn flat_plan_for(extents: &[Extent], target: usize, end: End) -> Plan {
+    let c = extents[target].w() * 100 / end.percent();
+    let e2 = (c / WHOLE_C + 1) * WHOLE_C;
+    let motorway = extents[0].w() * 100 / 107;
+    let e3 = e2 + (motorway - e2) * 35_333 / (extents[0].v() - 56_664);
+    Plan {
+        reference: REFERENCE as u32,
+        e1: e2 as u32,
+        e2: e2 as u32,
+        e3: e3 as u32,
+        lower: TOLERANCE as u8,
+        upper: [TOLERANCE as u8, 70, 80],
+    }
 }
 
 type PlanFor = fn(&[Extent], usize, End) -> Plan;
@@ -178,17 +218,24 @@ type PlanFor = fn(&[Extent], usize, End) -> Plan;
 /// "Inside: 100w at least (100-lower)c and at most (100+upper)c": the target at the end of its band,
 /// and one mg beyond.
 fn at_end(target: usize, end: End, plan_for: PlanFor) -> (Trip, Trip) {
-    let mut trip = falling_drive();
-    let mut windows = six_windows(&trip);
+    let trip = falling_drive();
+    let windows = six_windows(&trip, 5_900);
+    with_target(trip, windows, target, end, plan_for)
+}
+
+/// The same of a drive with these windows.
+fn with_target(
+    mut trip: Trip,
+    mut windows: Vec<Window>,
+    target: usize,
+    end: End,
+    plan_for: PlanFor,
+) -> (Trip, Trip) {
     let extents: Vec<Extent> = (0..windows.len())
-        .map(|first| Extent {
-            s: distance(&trip, first, windows[first].last),
-            n: (windows[first].last + 1 - first) as i64,
-        })
+        .map(|first| extent(&trip, first, windows[first].last))
         .collect();
     trip.plan = plan_for(&extents, target, end);
-    let w = curve(&trip.plan, extents[target].v()) * end.percent() / 100;
-    windows[target].mass = end.last_mass(w, extents[target].s);
+    windows[target].mass = end.last_mass(&trip.plan, extents[target]);
     let within = with_windows(&trip, &windows);
     let last = kept(&trip)[windows[target].last];
     let beyond = within.with(last, |second| match end {
@@ -196,6 +243,13 @@ fn at_end(target: usize, end: End, plan_for: PlanFor) -> (Trip, Trip) {
         End::Upper => second.co2 += 1,
     });
     (within, beyond)
+}
+
+fn extent(trip: &Trip, first: usize, last: usize) -> Extent {
+    Extent {
+        s: distance(trip, first, last),
+        n: (last + 1 - first) as i64,
+    }
 }
 
 /// With its fellow inside no reason hangs on the target; with its fellow outside that is "15: a class
@@ -213,9 +267,48 @@ fn pair(which: usize, end: End, fellow_inside: bool) -> Pair {
     }
 }
 
-/// "Curve c, floor towards minus infinity": where it falls, that is not the same as towards zero.
+/// "the unrounded line", where it falls.
 fn on_falling_curve() -> Pair {
     let (within, beyond) = at_end(0, End::Upper, falling_plan_for);
     let name = "band: motorway, at the upper end on a falling curve, and one mg beyond";
     Pair::of_figure(name, within, beyond)
+}
+
+/// "at least", "at most": the figure of the target, an urban window, is exactly at the end.
+fn exactly_at_end(end: End) -> Pair {
+    let target = place_of_target(URBAN, end, false);
+    let trip = falling_drive();
+    let windows = six_windows(&trip, 5_900);
+    let last = windows[target].last;
+    let trip = with_slower_motorway(&trip, extent(&trip, target, last).s % WHOLE_S);
+    let at = extent(&trip, target, last);
+    let (within, beyond) = with_target(trip, windows, target, end, flat_plan_for);
+    let mass = end.mass(&within.plan, at);
+    assert_eq!(mass.numerator % mass.denominator, 0, "a whole mass");
+    let end = end.name();
+    let what = format!("urban, half inside exactly at the {end} end, and one window fewer");
+    Pair::of_reason(15, &what, within, beyond)
+}
+
+/// "the first up to 56,664 itself": the target, the second rural window, has a mean between two whole
+/// numbers, one of which is the turn.
+fn beside_the_turn(below: i64, between: &str, end: End) -> Pair {
+    let target = 3;
+    let trip = falling_drive();
+    let windows = six_windows(&trip, 5_670);
+    let Extent { s, n } = extent(&trip, target, windows[target].last);
+    let wanted = (2 * below + 1) * n / 20;
+    let trip = with_slower_motorway(&trip, s - wanted);
+    let (within, beyond) = with_target(trip, windows, target, end, plan_for);
+    let what = format!("rural, a mean between {between}");
+    match end {
+        End::Upper => {
+            let name = format!("band: {what}, at the upper end, and one mg beyond");
+            Pair::of_figure(&name, within, beyond)
+        }
+        End::Lower => {
+            let what = format!("{what}, half inside by the lower end, and one window fewer");
+            Pair::of_reason(15, &what, within, beyond)
+        }
+    }
 }

@@ -37,6 +37,8 @@ pub struct Pair {
     pub reason: Option<u32>,
     /// Reasons that hold on both sides, because the rules allow no otherwise valid trip.
     pub besides: u16,
+    /// How many windows fewer are inside on the other side, where the border is that of the band.
+    pub fewer_inside: Option<u32>,
     /// On the border: the reason does not hold.
     pub within: Trip,
     /// One step beyond: it holds.
@@ -50,6 +52,7 @@ impl Pair {
             name: format!("reason {reason}: {what}"),
             reason: Some(reason),
             besides: 0,
+            fewer_inside: None,
             within,
             beyond,
         }
@@ -61,8 +64,17 @@ impl Pair {
             name: name.to_string(),
             reason: None,
             besides: 0,
+            fewer_inside: None,
             within,
             beyond,
+        }
+    }
+
+    /// The same pair, on the border of the band: one window fewer is inside beyond it.
+    fn of_the_band(self) -> Pair {
+        Pair {
+            fewer_inside: Some(1),
+            ..self
         }
     }
 }

@@ -6,6 +6,7 @@ use oracle::Plan;
 
 use super::Chosen;
 use crate::case::{Case, SweepInput};
+use crate::ends::{last_mass_at, percentages, OnAnEnd, Recipe};
 use crate::lanes::Lanes;
 use crate::random::Random;
 
@@ -172,61 +173,114 @@ fn dynamics(all: &mut Chosen) {
     }
 }
 
-/// Means on each border of the classes and of the curve, masses on each end of the band.
-fn windows(all: &mut Chosen) {
-    let plan = |e1, e2, e3, lower, upper| Plan {
+fn curve(e1: u32, e2: u32, e3: u32, lower: u8, upper: [u8; 3]) -> Plan {
+    Plan {
         reference: 1,
         e1,
         e2,
         e3,
         lower,
         upper,
-    };
+    }
+}
+
+fn window(all: &mut Chosen, plan: Plan, s: i128, m: i128, n: i128) {
+    // a window has at least 1 mg
+    let sums = (u32::try_from(s), u32::try_from(m.max(1)));
+    if let (Ok(s), Ok(m)) = sums {
+        let n = n as usize;
+        all.add("window", Case::Window { plan, s, m, n });
+    }
+}
+
+/// Means on each border of the classes and of the curve and between them, masses on each end of the
+/// band.
+fn windows(all: &mut Chosen) {
     let plans = [
-        plan(200_000, 140_000, 160_000, 25, [45, 40, 35]),
-        plan(140_000, 200_000, 90_000, 0, [0, 10, 20]),
-        plan(1, 2_000_000, 1, 100, [100, 0, 50]),
-        plan(2_000_000, 1, 1, 50, [50, 25, 0]),
-        plan(150_000, 150_000, 150_000, 20, [20, 40, 60]),
+        curve(200_000, 140_000, 160_000, 25, [45, 40, 35]),
+        curve(140_000, 200_000, 90_000, 0, [0, 10, 20]),
+        curve(1, 2_000_000, 1, 100, [100, 0, 50]),
+        curve(2_000_000, 1, 1, 50, [50, 25, 0]),
+        curve(150_000, 150_000, 150_000, 20, [20, 40, 60]),
     ];
     let means = [
         100, 18_881, 18_882, 18_883, 30_000, 37_773, 44_999, 45_000, 45_001, 56_663, 56_664,
         56_665, 56_666, 79_999, 80_000, 80_001, 92_000, 144_999, 145_000, 145_001,
     ];
-    // This curve is 0 at 96,664.
-    let falling = plan(100_000, 40_000, 4_667, 25, [45, 40, 35]);
-    for s in [96_663, 96_664, 96_665] {
-        for m in [0, 1] {
-            let (plan, n) = (falling, 10);
-            all.add("window", Case::Window { plan, s, m, n });
-        }
-    }
     for plan in plans {
         for v in means {
             for n in [10i128, 60, 997] {
                 for s in [v * n / 10, v * n / 10 + 1, (v * n + n - 1) / 10] {
-                    on_the_band(all, plan, v, s, n);
+                    on_the_band(all, plan, s, n);
+                }
+            }
+        }
+    }
+    at_ends(all);
+    at_zero(all);
+    of_any_size(all);
+}
+
+/// The masses at which a window of these sums comes inside and leaves the band.
+fn on_the_band(all: &mut Chosen, plan: Plan, s: i128, n: i128) {
+    for percent in percentages(&plan, s, n) {
+        let m = last_mass_at(&plan, percent, s, n);
+        for m in [m - 1, m, m + 1] {
+            window(all, plan, s, m, n);
+        }
+    }
+}
+
+/// Windows for which the products of a comparison are equal, on either line, and one mg either side;
+/// mean, curve and figure are whole, sevenths or elevenths.
+fn at_ends(all: &mut Chosen) {
+    for percent in [50, 75, 100, 125, 150, 200] {
+        for (parts, length) in [(1, 400), (1, 600), (7, 16), (7, 10), (11, 8), (11, 4)] {
+            for rise in [-2, 0, 1] {
+                let recipe = Recipe {
+                    percent,
+                    parts,
+                    length,
+                    times: 1,
+                    e2: 150_000,
+                    rise,
+                    other: 90_000,
+                    tolerance: 100,
+                };
+                let Some(OnAnEnd { plan, s, m, n, .. }) = recipe.window() else {
+                    continue;
+                };
+                for m in [m - 1, m, m + 1] {
+                    window(all, plan, s.into(), m.into(), n as i128);
                 }
             }
         }
     }
 }
 
-/// The masses at which a window of these sums comes inside and leaves the band.
-fn on_the_band(all: &mut Chosen, plan: Plan, v: i128, s: i128, n: i128) {
-    let [e1, e2, e3] = plan.curve().map(i128::from);
-    let c = if v <= 56_664 {
-        e1 + ((e2 - e1) * (v - 18_882)).div_euclid(37_782)
-    } else {
-        e2 + ((e3 - e2) * (v - 56_664)).div_euclid(35_333)
-    };
-    let upper = plan.upper[(v >= 45_000) as usize + (v >= 80_000) as usize];
-    for edge in [100 - i128::from(plan.lower), 100 + i128::from(upper)] {
-        let m = edge * c * s / 36_000_000;
-        for m in [m - 1, m, m + 1] {
-            if let (Ok(s), Ok(m), Ok(n)) = (s.try_into(), m.try_into(), n.try_into()) {
-                all.add("window", Case::Window { plan, s, m, n });
-            }
+/// A curve that is 0 at 96,664, there, just before and just after it.
+fn at_zero(all: &mut Chosen) {
+    for lower in [25, 100] {
+        let falling = curve(100_000, 40_000, 4_667, lower, [45, 40, 35]);
+        for s in [96_663, 96_664, 96_665] {
+            window(all, falling, s, 1, 10);
+            window(all, falling, 100 * s, 1, 1_000);
+        }
+        for s in [9_666_399, 9_666_401] {
+            window(all, falling, s, 1, 1_000);
+        }
+    }
+}
+
+/// Sums that no trip has.
+fn of_any_size(all: &mut Chosen) {
+    let most = i128::from(u32::MAX);
+    let plan = curve(2_000_000, 1, 2_000_000, 0, [100; 3]);
+    for n in [1, 8_192, 8_193, 32_767, 32_768] {
+        for s in [1, 6_000 * n, 12_000 * n, most] {
+            on_the_band(all, plan, s, n);
+            window(all, plan, s, 1, n);
+            window(all, plan, s, most, n);
         }
     }
 }

@@ -25,8 +25,9 @@ const OF_THE_STREAM: &str = "Stream: within it 8, 7, 11, 5 or 3, 2, 6";
 const OF_THE_ITEM: &str = "one item: 8, 7, then 5 or 3";
 const OF_THE_PERCENTILE: &str = "Percentile: 2, 12, 6, 3";
 
-/// Two sentences more of which a wrong reading is not to be told.
+/// More sentences of which a wrong reading is not to be told; the second is the first since L2.
 const UP_TO_THE_TURN: &str = "for v up to 56,664";
+const UP_TO_THE_TURN_ITSELF: &str = "L2: the first up to 56,664 itself";
 const JUDGED_FOR_NEITHER: &str = "11: that bin is judged for neither 12 nor 13";
 
 const NO_LENGTH: &str = "an item of unknown kind has no length, so it is never cut";
@@ -39,8 +40,9 @@ const FEW_OR_MANY: &str = "more than 8,192 values are never fewer than 100";
 const LINES_MEET: &str = "at 56,664 both lines give E2";
 const NEVER_LIVELY: &str = "there Q is 0, and 0 is never too lively";
 
-/// The wrong readings that no input can tell: sentence, what is read instead, and the ground.
-pub const NOT_TO_BE_TOLD: [(&str, &str, &str); 20] = [
+/// The wrong readings that no input can tell: sentence, what is read instead, and the ground. A
+/// sentence that a release has in other words has a row of its own.
+pub const NOT_TO_BE_TOLD: [(&str, &str, &str); 21] = [
     (OF_THE_STREAM, "7 before 8", NO_LENGTH),
     (OF_THE_STREAM, "5 before 8", NEITHER),
     (OF_THE_STREAM, "3 before 8", NEITHER),
@@ -60,6 +62,7 @@ pub const NOT_TO_BE_TOLD: [(&str, &str, &str); 20] = [
     (OF_THE_ITEM, "3 before 5", ONE_OF_TWO),
     (OF_THE_PERCENTILE, "12 before 2", FEW_OR_MANY),
     (UP_TO_THE_TURN, "56663 for 56664", LINES_MEET),
+    (UP_TO_THE_TURN_ITSELF, "below for at most", LINES_MEET),
     (JUDGED_FOR_NEITHER, "it is for 12", NEVER_LIVELY),
 ];
 
@@ -180,16 +183,29 @@ impl Table {
         }
     }
 
-    /// A quotient rounded otherwise.
-    fn rounding(
+    /// A quotient rounded otherwise, or rounded where it is not.
+    fn rounding<R: From<Rounding>>(
         &mut self,
         sentence: &str,
         otherwise: &[Rounding],
-        of: impl Fn(&mut Rules) -> &mut Rounding,
+        of: impl Fn(&mut Rules) -> &mut R,
     ) {
         for &wrong in otherwise {
-            let instead = format!("rounded {wrong:?} for {:?}", of(&mut self.right));
-            self.row(sentence, instead, |rules| *of(rules) = wrong);
+            let change = |rules: &mut Rules| *of(rules) = wrong.into();
+            self.row(sentence, format!("rounded {wrong:?}"), change);
+        }
+    }
+
+    /// A figure rounded in one of its uses alone.
+    fn rounding_slip(
+        &mut self,
+        sentence: &str,
+        roundings: &[Rounding],
+        slip: impl Fn(Rounding) -> Slip,
+    ) {
+        for &rounding in roundings {
+            let instead = format!("rounded {rounding:?}");
+            self.slip(sentence, &instead, slip(rounding));
         }
     }
 

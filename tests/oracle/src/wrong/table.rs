@@ -5,10 +5,11 @@
 //! both ends. `order`: every two refusals the other way round. `left_out`, `exchanged`: each of a
 //! list, each two neighbours of it. `slip`: misread in words.
 
-use super::{Table, JUDGED_FOR_NEITHER, OF_THE_ITEM, OF_THE_PERCENTILE, OF_THE_STREAM, UP_TO_THE_TURN};
+use super::{Table, JUDGED_FOR_NEITHER, OF_THE_ITEM, OF_THE_PERCENTILE, OF_THE_STREAM};
+use super::{UP_TO_THE_TURN, UP_TO_THE_TURN_ITSELF};
 use crate::bound::Rounding;
 use crate::numbers::NO_SECOND;
-use crate::rules::{Holds, Kind, Rules, Slip};
+use crate::rules::{End, Holds, Kind, Rules, Slip};
 
 const PARTS: [&str; 3] = ["urban", "rural", "motorway"];
 const LANES: [&str; 5] = ["states", "speeds", "altitudes", "CO2", "NOx"];
@@ -328,32 +329,22 @@ fn sweep(t: &mut Table) {
     t.slip(never, "a finished state is refused", Slip::FinishedStateRefused);
 }
 
+/// Every rounding; those that are not down; of these those of a number that is never negative.
+const EACH_ROUNDING: [Rounding; 4] = [Rounding::Down, Rounding::Up, Rounding::TowardsZero, Rounding::Nearest];
+const OTHERS_THAN_DOWN: [Rounding; 3] = [Rounding::Up, Rounding::TowardsZero, Rounding::Nearest];
+const UP_AND_NEAREST: [Rounding; 2] = [Rounding::Up, Rounding::Nearest];
+
 fn window_figures(t: &mut Table) {
     t.part("window");
-    let others = [Rounding::Up, Rounding::Nearest];
-    let mean = "mean speed is v = floor(10S/n)";
-    t.number(mean, |r| &mut r.windows.mean_times);
-    t.rounding(mean, &others, |r| &mut r.windows.mean_rounding);
-    for (class, sentence) in ["Urban: v < 45,000", "Rural: to below 80,000", "Motorway: to below 145,000"].into_iter().enumerate() {
-        t.end(sentence, |r| &mut r.windows.classes[class]);
+    if t.right.release == 1 {
+        rounded_figures(t);
+    } else {
+        exact_figures(t);
     }
     let faster = "Faster windows have no class";
     t.slip(faster, "they are motorway windows", Slip::FasterWindowsAreMotorway);
     t.slip("Curve c", "without its sign", Slip::CurveWithoutSign);
-    t.slip("Curve c", "0 has nothing inside", Slip::ZeroCurveNeverInside);
-    t.end(UP_TO_THE_TURN, |r| &mut r.windows.turn);
-    for (line, sentence) in ["E1 + floor((E2-E1)(v-18,882)/37,782)", "E2 + floor((E3-E2)(v-56,664)/35,333)"].into_iter().enumerate() {
-        t.number(sentence, |r| &mut r.windows.lines[line].from);
-        t.number(sentence, |r| &mut r.windows.lines[line].over);
-        let others = [Rounding::Up, Rounding::TowardsZero, Rounding::Nearest];
-        t.rounding(sentence, &others, |r| &mut r.windows.lines[line].rounding);
-        let ends = ["its first end", "its second end"];
-        t.exchanged(sentence, &ends, |r| &mut r.windows.lines[line].ends);
-    }
     t.slip("also below 18,882", "E1 below 18,882", Slip::CurveFlatBelowItsFirstPoint);
-    let figure = "w = floor(360,000 m / S)";
-    t.number(figure, |r| &mut r.windows.kilometre);
-    t.rounding(figure, &others, |r| &mut r.windows.figure_rounding);
     let inside = "Inside: 100w at least (100-lower)c and at most (100+upper)c";
     t.number(inside, |r| &mut r.windows.band.of_figure);
     t.number(&format!("{inside}: lower"), |r| &mut r.windows.band.of_lower);
@@ -362,6 +353,65 @@ fn window_figures(t: &mut Table) {
     t.side(inside, |r| &mut r.windows.band.most);
     t.slip(inside, "lower and upper exchanged", Slip::TolerancesExchanged);
     t.exchanged("upper tolerances for urban, rural, motorway", &PARTS, |r| &mut r.windows.tolerance_of);
+}
+
+const CLASSES: [&str; 3] = ["Urban: v < 45,000", "Rural: to below 80,000", "Motorway: to below 145,000"];
+
+/// Numbers and ends of a line, in the words of a release.
+fn line(t: &mut Table, line: usize, sentence: &str, roundings: &[Rounding]) {
+    t.number(sentence, |r| &mut r.windows.lines[line].from);
+    t.number(sentence, |r| &mut r.windows.lines[line].over);
+    t.rounding(sentence, roundings, |r| &mut r.windows.lines[line].rounding);
+    let ends = ["its first end", "its second end"];
+    t.exchanged(sentence, &ends, |r| &mut r.windows.lines[line].ends);
+}
+
+/// The paper as it stands: mean, curve and figure rounded down.
+fn rounded_figures(t: &mut Table) {
+    let mean = "mean speed is v = floor(10S/n)";
+    t.number(mean, |r| &mut r.windows.mean_times);
+    t.rounding(mean, &UP_AND_NEAREST, |r| &mut r.windows.mean_rounding);
+    for (class, sentence) in CLASSES.into_iter().enumerate() {
+        t.end(sentence, |r| &mut r.windows.classes[class]);
+    }
+    t.slip("Curve c", "0 has nothing inside", Slip::ZeroCurveNeverInside);
+    t.end(UP_TO_THE_TURN, |r| &mut r.windows.turn);
+    line(t, 0, "E1 + floor((E2-E1)(v-18,882)/37,782)", &OTHERS_THAN_DOWN);
+    line(t, 1, "E2 + floor((E3-E2)(v-56,664)/35,333)", &OTHERS_THAN_DOWN);
+    let figure = "w = floor(360,000 m / S)";
+    t.number(figure, |r| &mut r.windows.kilometre);
+    t.rounding(figure, &UP_AND_NEAREST, |r| &mut r.windows.figure_rounding);
+}
+
+/// Since L2: nothing is rounded. What rounds the mean for the class alone is told where it is not down,
+/// for the borders are whole, and what rounds it for the choice of the line where it is not up.
+fn exact_figures(t: &mut Table) {
+    let mean = "L2: at the exact mean, v = 10S/n";
+    t.number(mean, |r| &mut r.windows.mean_times);
+    t.rounding(mean, &EACH_ROUNDING, |r| &mut r.windows.mean_rounding);
+    for (class, sentence) in CLASSES.into_iter().enumerate() {
+        t.share(sentence, |r| &mut r.windows.classes[class]);
+    }
+    let class = "L2: at the exact mean: the class alone";
+    t.rounding_slip(class, &UP_AND_NEAREST, Slip::ClassByTheMeanRounded);
+    let curve = "L2: at the exact mean: the curve alone";
+    t.rounding_slip(curve, &EACH_ROUNDING, Slip::CurveByTheMeanRounded);
+    t.share(UP_TO_THE_TURN_ITSELF, |r| &mut r.windows.turn);
+    let turn = "L2: the first up to 56,664 itself: the choice of the line alone";
+    t.rounding_slip(turn, &[Rounding::Down, Rounding::Nearest], Slip::LineByTheMeanRounded);
+    line(t, 0, "L2: the unrounded line: E1 + (E2-E1)(v-18,882)/37,782", &EACH_ROUNDING);
+    line(t, 1, "L2: the unrounded line: E2 + (E3-E2)(v-56,664)/35,333", &EACH_ROUNDING);
+    let figure = "L2: the window figure is the exact quotient, w = 360,000 m / S";
+    t.number(figure, |r| &mut r.windows.kilometre);
+    t.rounding(figure, &EACH_ROUNDING, |r| &mut r.windows.figure_rounding);
+    let both = "L2: both comparisons are made by cross-multiplying";
+    for (end, name) in [(End::Lower, "lower"), (End::Upper, "upper")] {
+        t.slip(both, &format!("the {name} one of whole figures, as before"), Slip::WholeFiguresInTheComparison(end));
+        let border = format!("{both}: the {name} end of the band");
+        t.rounding_slip(&border, &EACH_ROUNDING, |rounding| Slip::EndOfTheBandRounded(end, rounding));
+    }
+    t.slip(both, "of quotients in f64", Slip::ComparedAsReals);
+    t.slip(both, "in 64 bits", Slip::ComparedIn64Bits);
 }
 
 fn dynamics(t: &mut Table) {

@@ -1,5 +1,6 @@
 //! The independent program's functions by the paper as it stands: release 1.
 
+use oracle::fraction::{whole, Fraction};
 use oracle::mass::{Reading, Setting};
 use oracle::reasons::Figures;
 use oracle::second::{Second, TripLanes};
@@ -42,11 +43,6 @@ by_the_paper! {
     m::nox_mass(reading: Reading, setting: Setting) -> Result<u32, Refusal>;
     w::windows(kept_co2: &[u32], reference: u32) -> Vec<(usize, usize)>;
     w::end_number(last: usize) -> u16;
-    w::mean_speed(s: i128, n: i128) -> i128;
-    w::class(v: i128) -> Option<usize>;
-    w::curve(plan: &Plan, v: i128) -> i128;
-    w::figure(m: i128, s: i128) -> i128;
-    w::is_inside(w: i128, c: i128, lower: u8, upper: u8) -> bool;
     w::window_figures(plan: &Plan, speeds: &[u16], co2: &[u32]) -> WindowFigures;
     w::kept(trip: TripLanes) -> (Vec<u16>, Vec<u32>);
     w::sweep(co2: &[u32], ends: &mut [u16], reference: u32, state: SweepState, budget: u64)
@@ -54,6 +50,31 @@ by_the_paper! {
     t::figures(plan: &Plan, trip: TripLanes) -> Figures;
     t::trip_windows(plan: &Plan, trip: TripLanes) -> Vec<WindowFigures>;
     t::evaluate(plan: &Plan, trip: TripLanes, lent: &mut LentLanes) -> Result<TripAnswer, Refusal>;
+}
+
+/// A figure that the paper rounds, as the whole number that it is.
+fn rounded(figure: Fraction) -> i128 {
+    figure.as_whole().expect("a whole number")
+}
+
+pub fn mean_speed(s: i128, n: i128) -> i128 {
+    rounded(w::mean_speed(paper(), s, n))
+}
+
+pub fn class(v: i128) -> Option<usize> {
+    w::class(paper(), whole(v))
+}
+
+pub fn curve(plan: &Plan, v: i128) -> i128 {
+    rounded(w::curve(paper(), plan, whole(v)))
+}
+
+pub fn figure(m: i128, s: i128) -> i128 {
+    rounded(w::figure(paper(), m, s))
+}
+
+pub fn is_inside(figure: i128, curve: i128, lower: u8, upper: u8) -> bool {
+    w::is_inside(paper(), whole(figure), whole(curve), lower, upper)
 }
 
 pub fn reading_of_kind(kind: u8, value: f64) -> Result<Reading, Refusal> {

@@ -1,12 +1,15 @@
-//! "Examples (a) to (l) are one table".
+//! "Examples (a) to (l) are one table"; (d) to (f) are restated by L2.
 
 use crate::as_it_stands::{
     co2_mass, corrected_altitudes, curve, each_reason, figures, percentile, product, products,
     sweep,
 };
 use crate::build::{measured, of_speeds, Lanes, PRINTED_PLAN};
+use oracle::bound::below;
+use oracle::fraction::whole;
 use oracle::mass::{Reading, Setting};
-use oracle::windows::SweepState;
+use oracle::windows::{self, SweepState};
+use oracle::Rules;
 
 /// The ends that a sweep to its end writes, then its moves.
 fn swept(masses: &[u32], reference: u32) -> Vec<i128> {
@@ -96,4 +99,19 @@ fn a_to_l() {
     for (name, found, expected) in table {
         assert_eq!(found, expected, "example ({name})");
     }
+}
+
+/// "Examples (d) to (f) become statements about the exact line, (d) lying strictly between 199,998 and
+/// 199,999."
+#[test]
+fn d_to_f_on_the_exact_line() {
+    let mut rules = oracle::release(2).unwrap();
+    let at = |rules: &Rules, v: i128| windows::curve(rules, &PRINTED_PLAN, whole(v));
+    let d = at(&rules, 18_883);
+    assert!(whole(199_998) < d && d < whole(199_999));
+    assert_eq!(at(&rules, 37_773), whole(170_000));
+    // (f) from either line.
+    assert_eq!(at(&rules, 56_664), whole(140_000));
+    rules.windows.turn = below(56_664);
+    assert_eq!(at(&rules, 56_664), whole(140_000));
 }

@@ -1,10 +1,12 @@
-//! The paper's sentences, tried on the independent program.
+//! The paper's sentences, and those of the changes after it, tried on the independent program.
 
 mod as_it_stands;
 mod build;
 mod climb;
 mod dynamics;
+mod exact;
 mod examples;
+mod fraction;
 mod item;
 mod mass;
 mod natural;

@@ -8,6 +8,7 @@ use crate::build::{
     valid_trip, Lanes, Lent, GUARD_16, GUARD_32, PRINTED_PLAN,
 };
 use crate::random::Random;
+use oracle::fraction::whole;
 use oracle::numbers::{MOTORWAY, RURAL};
 use oracle::reasons::{BinFigures, ClassFigures, Figures, Tally};
 use oracle::second::Second;
@@ -106,10 +107,10 @@ fn a_small_trip_figure_by_figure() {
 fn windows_of_a_small_trip() {
     let (plan, seconds) = small_trip();
     let window = |v, class, c, w| WindowFigures {
-        v,
+        v: whole(v),
         class: Some(class),
-        c,
-        w,
+        c: whole(c),
+        w: whole(w),
         inside: false,
     };
     let expected = [

@@ -1,10 +1,11 @@
-//! Kept seconds, windows by adding, and the figures of a window.
+//! Kept seconds, windows by adding, and the figures of a window as release 1 rounds them.
 
 use crate::as_it_stands::{
     class, curve, figure, is_inside, kept, mean_speed, window_figures, windows,
 };
 use crate::build::{check, measured, missing_with_values, Lanes, PRINTED_PLAN};
 use crate::random::Random;
+use oracle::fraction::whole;
 use oracle::numbers::{MOTORWAY, RURAL, URBAN};
 use oracle::windows::WindowFigures;
 use oracle::Plan;
@@ -182,10 +183,10 @@ fn figures_of_a_window_from_its_part_of_the_lanes() {
             let mut masses = vec![0; speeds.len()];
             masses[1] = co2;
             let expected = WindowFigures {
-                v: i128::from(speed) * 10,
+                v: whole(i128::from(speed) * 10),
                 class: Some(class),
-                c: 100_000,
-                w: i128::from(co2),
+                c: whole(100_000),
+                w: whole(co2.into()),
                 inside,
             };
             assert_eq!(judged(&speeds, &masses), expected);
@@ -196,10 +197,10 @@ fn figures_of_a_window_from_its_part_of_the_lanes() {
     // 14,500 is too fast for a class, though w is near c.
     let fast = judged(&[14_500; 72], &[4_028; 72]);
     let expected = WindowFigures {
-        v: 145_000,
+        v: whole(145_000),
         class: None,
-        c: 100_000,
-        w: 100_005,
+        c: whole(100_000),
+        w: whole(100_005),
         inside: false,
     };
     assert_eq!(fast, expected);
