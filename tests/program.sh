@@ -57,6 +57,8 @@ urban 4 0
 rural 0 0
 motorway 0 0
 reasons c86d"
+make --no-print-directory judge-as RELEASE=1 TRIP=examples/valid-by-release-1.trip 2>&1 | tail -n 1 >"$room/said"
+says "a trip that was valid by release 1, by release 1" "reasons 0000"
 
 "$judge" </dev/null >"$room/said" 2>&1
 says "an empty stream" "refused 11 at 0"
