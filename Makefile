@@ -33,7 +33,7 @@ trim:
 lib:
 	@tools/lib
 
-#: make test                          prove and test everything, 25 minutes
+#: make test                          prove and test everything, half an hour
 test:
 	@tools/test
 
