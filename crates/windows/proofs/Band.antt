@@ -1,26 +1,22 @@
 -- The band, multiplied out: where the curve is not above 0 no window is inside, and where it is both comparisons are of naturals. Assumes nothing.
 use Prim.Native.Nat.{ℕ, _+_, _-_, _*_, _≤_, _<_}
-use mathlib.Core.Path.{_≡_, refl, _∙_, ap, ap₂}
-use mathlib.Core.Bool.{Bool, true, false, not, _&&_, and-false}
+use mathlib.Core.Path.{_≡_, refl, sym, _∙_, ap, ap₂}
+use mathlib.Core.Bool.{Bool, false, not, _&&_, and-false, Bool·not-not}
 use native.Mathlib.Nat.{mul-add, add-mul, mul-le-mul-left, mul-le-mul-right, mul-pos, zero-mul, one-mul}
 use native.Mathlib.Omega.{arith}
-use borrow.Author.Tests.{le-leb, lt-leb, ltb-true, ltb-false}
+use borrow.Author.Tests.{lt-leb}
 use lib.Dec.{leb, ltb}
 use Rattle.base.specs.Fraction.{Fraction, whole, times, atMost}
 use Rattle.base.proofs.Fractions.{Is, is-same, whole-is, times-is, at-most-is}
-use Rattle.base.proofs.Integers.{leb-same}
+use Rattle.base.proofs.Integers.{leb-same, ltb-is}
 use Rattle.windows.specs.declared.Curve.{Curve}
 use Rattle.windows.specs.Figure.{massPerKm, inBand}
 use Rattle.windows.specs.Inside.{heldAs}
 use Rattle.windows.proofs.Exact.{figure-is}
 
 -- at most is not above
-not-below : (a b : ℕ) → leb a b ≡ not (ltb b a)
-not-below a b = go (ltb b a) refl
-  where
-    go : (t : Bool) → ltb b a ≡ t → leb a b ≡ not t
-    go true p = lt-leb a b (ltb-true b a p)
-    go false p = le-leb a b (ltb-false b a p)
+not-above : (a b : ℕ) → leb a b ≡ not (ltb b a)
+not-above a b = sym (Bool·not-not (leb a b)) ∙ ap not (sym (ltb-is b a))
 
 -- the curve that the code holds
 pub held : (c : Curve) → Is (heldAs c) (c .above) (c .under) (c .over)
@@ -68,14 +64,14 @@ module _ {c : Fraction} {p q d : ℕ} (is : Is c p q d) (s m : ℕ) where
       let parts = taken k h in
       least k
       ∙ leb-same (k * p * s) (36_000_000 * m * d + k * q * s) (k * (p - q) * s) (36_000_000 * m * d) (λ (j : k * p * s ≤ 36_000_000 * m * d + k * q * s). omega arith) (λ (j : 36_000_000 * m * d + k * q * s < k * p * s). omega arith)
-      ∙ not-below (k * (p - q) * s) (36_000_000 * m * d)
+      ∙ not-above (k * (p - q) * s) (36_000_000 * m * d)
 
   most-above : (k : ℕ) → q ≤ p → atMost (times (whole 100) (massPerKm s m)) (times (whole k) c) ≡ not (ltb (k * (p - q) * s) (36_000_000 * m * d))
   most-above k h =
       let parts = taken k h in
       most k
       ∙ leb-same (36_000_000 * m * d + k * q * s) (k * p * s) (36_000_000 * m * d) (k * (p - q) * s) (λ (j : 36_000_000 * m * d + k * q * s ≤ k * p * s). omega arith) (λ (j : k * p * s < 36_000_000 * m * d + k * q * s). omega arith)
-      ∙ not-below (36_000_000 * m * d) (k * (p - q) * s)
+      ∙ not-above (36_000_000 * m * d) (k * (p - q) * s)
 
   pub band-above : (lower upper : ℕ) → q ≤ p → inBand lower upper c (massPerKm s m) ≡ not (ltb (36_000_000 * m * d) ((100 - lower) * (p - q) * s)) && not (ltb ((100 + upper) * (p - q) * s) (36_000_000 * m * d))
   unfolding inBand
