@@ -1,7 +1,8 @@
 -- Exact fractions, for what is compared and never rounded. Every fraction here is made of whole numbers by the operations below and
 -- divided only by numbers above zero, so its denominator is above zero.
 use Prim.Native.Nat.{ℕ, _*_}
-use mathlib.Core.Bool.{Bool, not}
+use mathlib.Core.Path.{_≡_}
+use mathlib.Core.Bool.{Bool, true, not}
 use lib.IntN.{ℤ, pos, _+ℤ_, _-ℤ_, _*ℤ_}
 use lib.Signed.{leZ}
 
@@ -39,3 +40,7 @@ atMost x y = leZ (x .numerator *ℤ pos (y .denominator)) (y .numerator *ℤ pos
 
 unfoldable pub below : Fraction → Fraction → Bool
 below x y = not (atMost y x)
+
+-- a fraction is a whole number: each is at most the other
+abbrev pub IsNumber : Fraction → ℕ → Type 0
+IsNumber x n = (atMost x (whole n) ≡ true) × (atMost (whole n) x ≡ true)

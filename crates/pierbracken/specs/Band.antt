@@ -7,7 +7,7 @@ use mathlib.Core.Logic.{_⊎_}
 use lib.Dec.{leb, ltb}
 use lib.IntN.{pos, _*ℤ_}
 use Rattle.base.specs.declared.Plan.{Plan}
-use Rattle.base.specs.Fraction.{Fraction, whole, times, atMost, below}
+use Rattle.base.specs.Fraction.{Fraction, whole, times, atMost, below, IsNumber}
 use Rattle.base.proofs.Fractions as fractions
 use Rattle.windows.specs.Figure.{meanSpeed, massPerKm, speedOfE1, fromE1ToE2, speedOfE2, fromE2ToE3, lineAt, curve, inBand}
 use Rattle.windows.proofs.Theorems as band
@@ -35,10 +35,6 @@ one-number = fractions.one-number
 -- whole numbers are ordered as numbers
 pub whole-numbers : (m n : ℕ) → atMost (whole m) (whole n) ≡ leb m n
 whole-numbers = fractions.wholes
-
--- a fraction is a whole number
-abbrev pub IsNumber : Fraction → ℕ → Type 0
-IsNumber x n = (atMost x (whole n) ≡ true) × (atMost (whole n) x ≡ true)
 
 -- ---- mean, curve and figure of a window have a denominator above zero
 pub mean-denominator : (s n : ℕ) → 0 < n → 0 < meanSpeed s n .denominator

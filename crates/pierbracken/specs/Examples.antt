@@ -7,7 +7,7 @@ use lib.IntN.{pos, negsuc}
 use lib.ListN.{length, take, replicate}
 use lib.Ieee.{fin, ofInt, le, lt, eq, mul, round}
 use Rattle.base.specs.declared.Plan.{Plan}
-use Rattle.base.specs.Fraction.{whole, plus, minus, times, over, atMost, below}
+use Rattle.base.specs.Fraction.{whole, plus, minus, times, over, atMost, below, IsNumber}
 use Rattle.base.specs.Roads.{urban}
 use Rattle.base.specs.Words.{sum, afterFirst, firstWhere, sumOver}
 use Rattle.second.specs.Bins.{binOf}
@@ -24,7 +24,6 @@ use Rattle.mass.specs.declared.Reading.{Reading}
 use Rattle.mass.specs.declared.Reading.the-variants.{DryPpm}
 use Rattle.mass.specs.declared.Setting.{Setting}
 use Rattle.mass.specs.declared.Weighed.the-variants.{Mass}
-use Rattle.pierbracken.specs.Band.{IsNumber}
 use Rattle.mass.specs.Mass.{readingInRange, settingInRange, zeroTo, aboveZeroTo, wetPpm, lastProduct, wholePart, massAnswer, co2Mass}
 
 -- "plan 7; 200,000; 140,000; 160,000; 25, 45, 40, 40"

@@ -8,7 +8,7 @@ use native.Mathlib.Omega.{arith}
 use borrow.Author.Tests.{le-leb, lt-ltb, le-ltb, leb-true, ltb-true, ltb-false}
 use lib.Dec.{leb, ltb}
 use Rattle.base.specs.declared.Plan.{Plan}
-use Rattle.base.specs.Fraction.{Fraction, whole, times, atMost, below}
+use Rattle.base.specs.Fraction.{Fraction, whole, times, atMost, below, IsNumber}
 use Rattle.base.proofs.Choice.{both-ways}
 use Rattle.base.proofs.Fractions.{Is, is-same, whole-is, at-most-is, has, lacks, as-difference}
 use Rattle.windows.specs.Figure.{meanSpeed, massPerKm, speedOfE1, fromE1ToE2, speedOfE2, fromE2ToE3, lineAt, curve, inBand}
@@ -38,7 +38,7 @@ multiplied-out lower upper e f a w s m n =
 
 -- ---- the lines meet
 -- (p - q) / d is the whole number k
-is-number : {x : Fraction} {p q d : ℕ} (k : ℕ) → Is x p q d → p ≡ k * d + q → (atMost x (whole k) ≡ true) × (atMost (whole k) x ≡ true)
+is-number : {x : Fraction} {p q d : ℕ} (k : ℕ) → Is x p q d → p ≡ k * d + q → IsNumber x k
 is-number {x} {p} {q} {d} k is e =
     let up : p * 1 + 0 * d ≤ k * d + q * 1 = omega (arith, zero-mul d) in
     let down : k * d + q * 1 ≤ p * 1 + 0 * d = omega (arith, zero-mul d) in
@@ -46,18 +46,18 @@ is-number {x} {p} {q} {d} k is e =
 
 module _ {v : Fraction} {n : ℕ} (e f a w : ℕ) where
   -- a line has the value f at its end, and e at its beginning
-  line-ends : Is v (w * n + a * n) 0 n → (atMost (lineAt e f a w v) (whole f) ≡ true) × (atMost (whole f) (lineAt e f a w v) ≡ true)
+  line-ends : Is v (w * n + a * n) 0 n → IsNumber (lineAt e f a w v) f
   line-ends is = is-number f (line-is e f a w is) (omega (arith, mul-add f (w * n) (a * n)))
 
-  line-begins : Is v (a * n) 0 n → (atMost (lineAt e f a w v) (whole e) ≡ true) × (atMost (whole e) (lineAt e f a w v) ≡ true)
+  line-begins : Is v (a * n) 0 n → IsNumber (lineAt e f a w v) e
   line-begins is = is-number e (line-is e f a w is) (omega (arith, mul-add e (w * n) (a * n)))
 
 -- at 56,664 both lines have the value E2
 module _ (e f s n : ℕ) (turn : 10 * s ≡ speedOfE2 * n) where
-  pub first-at-turn : (atMost (lineAt e f speedOfE1 fromE1ToE2 (meanSpeed s n)) (whole f) ≡ true) × (atMost (whole f) (lineAt e f speedOfE1 fromE1ToE2 (meanSpeed s n)) ≡ true)
+  pub first-at-turn : IsNumber (lineAt e f speedOfE1 fromE1ToE2 (meanSpeed s n)) f
   first-at-turn = line-ends e f speedOfE1 fromE1ToE2 (is-same (fromE1ToE2 * n + speedOfE1 * n) 0 n (mean-is s n) (omega arith) refl)
 
-  pub second-at-turn : (atMost (lineAt e f speedOfE2 fromE2ToE3 (meanSpeed s n)) (whole e) ≡ true) × (atMost (whole e) (lineAt e f speedOfE2 fromE2ToE3 (meanSpeed s n)) ≡ true)
+  pub second-at-turn : IsNumber (lineAt e f speedOfE2 fromE2ToE3 (meanSpeed s n)) e
   second-at-turn = line-begins e f speedOfE2 fromE2ToE3 (is-same (speedOfE2 * n) 0 n (mean-is s n) (omega arith) refl)
 
 -- ---- at or below 0, and a lower tolerance of 100

@@ -378,6 +378,9 @@ fn percentile_of_paper(found: Result<i128, Refusal>) -> PercentileAnswer {
     answer
 }
 
+/// The most seconds of a window that the probe judges since release 2.
+pub const WINDOW_MOST: u64 = 32_768;
+
 /// Whether the probe judges a window of these sums, if the plan is in range. It takes any sums of which
 /// there can be a window, and a window has at least 1 mg; for release 1 it took any mass, and of the
 /// others what a trip of 8,192 seconds can have.
@@ -385,7 +388,7 @@ fn is_probed(rules: &Rules, s: u32, m: u32, n: usize) -> bool {
     if rules.release == 1 {
         return (1..=8_192).contains(&n) && (1..=8_192 * 25_000).contains(&s);
     }
-    (1..=32_768).contains(&n) && s >= 1 && m >= 1
+    (1..=WINDOW_MOST as usize).contains(&n) && s >= 1 && m >= 1
 }
 
 fn window_by_paper(rules: &Rules, plan: &Plan, s: u32, m: u32, n: usize) -> WindowProbe {

@@ -3,6 +3,7 @@
 
 use oracle::Plan;
 
+use crate::case::WINDOW_MOST;
 use crate::random::Random;
 
 /// A kilometre times the hundred of the percentages.
@@ -36,6 +37,12 @@ fn mass_at(plan: &Plan, percent: i128, s: i128, n: i128) -> (i128, i128) {
     (percent * c_times * s, KILOMETRE_TIMES_100 * over * n)
 }
 
+/// The first whole mass at which 100w is at least this percentage of c.
+pub fn first_mass_at(plan: &Plan, percent: i128, s: i128, n: i128) -> i128 {
+    let (numerator, denominator) = mass_at(plan, percent, s, n);
+    -(-numerator).div_euclid(denominator)
+}
+
 /// The last whole mass at which 100w is at most this percentage of c.
 pub fn last_mass_at(plan: &Plan, percent: i128, s: i128, n: i128) -> i128 {
     let (numerator, denominator) = mass_at(plan, percent, s, n);
@@ -46,6 +53,18 @@ pub fn last_mass_at(plan: &Plan, percent: i128, s: i128, n: i128) -> i128 {
 pub fn percentages(plan: &Plan, s: i128, n: i128) -> [i128; 2] {
     let upper = plan.upper[class(s, n)];
     [100 - i128::from(plan.lower), 100 + i128::from(upper)]
+}
+
+/// A plan with this curve, for windows of any mass.
+pub fn plan_with([e1, e2, e3]: [u32; 3], lower: u8, upper: [u8; 3]) -> Plan {
+    Plan {
+        reference: 1,
+        e1,
+        e2,
+        e3,
+        lower,
+        upper,
+    }
 }
 
 /// A window whose figure is exactly at an end of its band, and so inside.
@@ -83,7 +102,8 @@ impl Recipe {
         let Recipe { percent, parts, .. } = *self;
         let k = KILOMETRE_TIMES_100 / percent;
         let (s, n) = (k * parts * self.times, parts * parts * self.length);
-        if n > 32_768 || 10 * k % self.length != 0 || 10 * s >= 145_000 * n {
+        let too_long = n > i128::from(WINDOW_MOST);
+        if too_long || 10 * k % self.length != 0 || 10 * s >= 145_000 * n {
             return None;
         }
         let plan = self.plan(s, n)?;
@@ -117,14 +137,7 @@ impl Recipe {
         } else {
             (self.tolerance, end)
         };
-        Some(Plan {
-            reference: 1,
-            e1,
-            e2: in_range(self.e2)?,
-            e3,
-            lower,
-            upper: [upper; 3],
-        })
+        Some(plan_with([e1, in_range(self.e2)?, e3], lower, [upper; 3]))
     }
 
     /// A recipe of any numbers, of which not every one makes a window.

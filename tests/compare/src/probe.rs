@@ -4,8 +4,8 @@
 use oracle::Plan;
 
 use crate::account::{Account, Comparison};
-use crate::case::{Answer, Case};
-use crate::ends::{last_mass_at, percentages, Recipe};
+use crate::case::{Answer, Case, WINDOW_MOST};
+use crate::ends::{last_mass_at, percentages, plan_with, Recipe};
 use crate::random::Random;
 use crate::trips;
 
@@ -112,15 +112,12 @@ fn around_the_ends(comparison: &mut Comparison, plan: &Plan, s: u32, n: usize) {
     }
 }
 
-/// The most seconds of a window.
-const SECONDS: u64 = 32_768;
-
 /// Means at each class's border and at the turn of the curve, masses at each end of the band.
 fn borders(comparison: &mut Comparison, seed: u64) {
     let mut random = Random::new(seed ^ 43);
     for _ in 0..20_000 {
         let plan = trips::plan(&mut random);
-        let most = [60, 8_192, SECONDS][random.below(3) as usize];
+        let most = [60, 8_192, WINDOW_MOST][random.below(3) as usize];
         let n = 1 + random.below(most);
         let v = [
             18_882u64,
@@ -163,7 +160,7 @@ fn turn_of_the_curve(comparison: &mut Comparison, seed: u64) {
     let mut random = Random::new(seed ^ 47);
     for round in 0..3_000 {
         let plan = trips::plan(&mut random);
-        let any = 5 + random.below(SECONDS - 4);
+        let any = 5 + random.below(WINDOW_MOST - 4);
         // a length that 5 divides has a sum with just the mean 56,664
         let n = if round % 2 == 0 { any / 5 * 5 } else { any };
         let (first, last) = (56_664 * n / 10, 56_665 * n / 10);
@@ -178,27 +175,20 @@ fn turn_of_the_curve(comparison: &mut Comparison, seed: u64) {
 fn with_a_zero(random: &mut Random) -> (Plan, u64) {
     let slope = 1 + random.below(20) as u32;
     let other = 1 + random.below(2_000_000) as u32;
-    let upper = [0, 50, 100].map(|_: u8| [0, 100][random.below(2) as usize]);
-    let lower = [0, 100][random.below(2) as usize];
-    let plan = |e1, e2, e3| Plan {
-        reference: 1,
-        e1,
-        e2,
-        e3,
-        lower,
-        upper,
-    };
+    let mut none_or_all = || [0, 100][random.below(2) as usize];
+    let upper = [(); 3].map(|()| none_or_all());
+    let lower = none_or_all();
     if random.below(2) == 0 {
         // rising from 0, below 18,882
         let before = 1 + random.below(18_000) as u32;
         let e1 = slope * before;
-        let plan = plan(e1, e1 + slope * 37_782, other);
+        let plan = plan_with([e1, e1 + slope * 37_782, other], lower, upper);
         (plan, u64::from(18_882 - before))
     } else {
         // falling to 0, beyond 91,997
         let after = 35_334 + random.below(53_000) as u32;
         let e2 = slope * after;
-        let plan = plan(other, e2, e2 - slope * 35_333);
+        let plan = plan_with([other, e2, e2 - slope * 35_333], lower, upper);
         (plan, u64::from(56_664 + after))
     }
 }
@@ -208,7 +198,7 @@ fn zeros(comparison: &mut Comparison, seed: u64) {
     let mut random = Random::new(seed ^ 48);
     for _ in 0..3_000 {
         let (plan, v) = with_a_zero(&mut random);
-        let n = 10 * (1 + random.below(SECONDS / 10));
+        let n = 10 * (1 + random.below(WINDOW_MOST / 10));
         for s in [v * n / 10 - 1, v * n / 10, v * n / 10 + 1] {
             let (s, n) = (s as u32, n as usize);
             for m in [1, 2, 1 + random.below(1_000) as u32] {
@@ -224,7 +214,7 @@ fn any_window(comparison: &mut Comparison, seed: u64) {
     let mut random = Random::new(seed ^ 44);
     for _ in 0..300_000 {
         let plan = trips::plan(&mut random);
-        let n = 1 + random.below(SECONDS);
+        let n = 1 + random.below(WINDOW_MOST);
         let s = 1 + random.below(25_000 * n) as u32;
         let m = sized(&mut random, 32) as u32;
         judged(comparison, &plan, s, m, n as usize);
@@ -238,7 +228,7 @@ fn any_window(comparison: &mut Comparison, seed: u64) {
 /// No seconds, one too many, no speed, no mass, and each value of the plan out of range.
 fn not_judged(comparison: &mut Comparison, seed: u64) {
     let mut random = Random::new(seed ^ 49);
-    let most = SECONDS as usize;
+    let most = WINDOW_MOST as usize;
     for _ in 0..500 {
         let plan = trips::plan(&mut random);
         let s = 1 + random.below(200_000_000) as u32;

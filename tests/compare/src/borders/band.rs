@@ -12,6 +12,7 @@ use super::few_windows::{
 };
 use super::measure::{MOTORWAY, NAMES, RURAL, URBAN};
 use super::{Pair, Trip};
+use crate::ends::{first_mass_at, last_mass_at};
 
 /// "lower tolerance and upper tolerances", percent.
 const TOLERANCE: i64 = 10;
@@ -56,24 +57,20 @@ impl End {
         }
     }
 
-    /// The mass that is this end: "the window figure is the exact quotient, and both comparisons are made
-    /// by cross-multiplying".
-    fn mass(self, plan: &Plan, at: Extent) -> Exact {
-        let c = curve(plan, at);
-        Exact {
-            numerator: i128::from(self.percent()) * c.numerator * i128::from(at.s),
-            denominator: 36_000_000 * c.denominator,
-        }
+    /// The whole masses on either side of this end, one and the same where it is whole: the first at
+    /// least at it and the last at most at it.
+    fn masses(self, plan: &Plan, Extent { s, n }: Extent) -> [i64; 2] {
+        let [percent, s, n] = [self.percent(), s, n].map(i128::from);
+        [first_mass_at, last_mass_at].map(|mass_at| mass_at(plan, percent, s, n) as i64)
     }
 
     /// The last whole mass within this end.
     fn last_mass(self, plan: &Plan, at: Extent) -> i64 {
-        let end = self.mass(plan, at);
-        let mass = match self {
-            End::Lower => -(-end.numerator).div_euclid(end.denominator),
-            End::Upper => end.numerator.div_euclid(end.denominator),
-        };
-        mass as i64
+        let [at_least, at_most] = self.masses(plan, at);
+        match self {
+            End::Lower => at_least,
+            End::Upper => at_most,
+        }
     }
 }
 
@@ -108,27 +105,6 @@ fn six_windows(trip: &Trip, second_rural: i64) -> Vec<Window> {
         last_at_mean(trip, 5, 3_800),
     ];
     ends.map(|last| Window { last, mass: MASS }).into()
-}
-
-/// A fraction: a value of the curve, or a mass.
-struct Exact {
-    numerator: i128,
-    denominator: i128,
-}
-
-/// "the curve is the unrounded line at the exact mean (the first up to 56,664 itself)"
-fn curve(plan: &Plan, Extent { s, n }: Extent) -> Exact {
-    let [e1, e2, e3] = [plan.e1, plan.e2, plan.e3].map(i128::from);
-    let (s, n) = (i128::from(s), i128::from(n));
-    let line = |e: i128, f: i128, from: i128, over: i128| Exact {
-        numerator: e * over * n + (f - e) * (10 * s - from * n),
-        denominator: over * n,
-    };
-    if 10 * s <= 56_664 * n {
-        line(e1, e2, 18_882, 37_782)
-    } else {
-        line(e2, e3, 56_664, 35_333)
-    }
 }
 
 /// A plan whose curve passes close to three points, a v and a c for urban, rural and motorway.
@@ -283,8 +259,8 @@ fn exactly_at_end(end: End) -> Pair {
     let trip = with_slower_motorway(&trip, extent(&trip, target, last).s % WHOLE_S);
     let at = extent(&trip, target, last);
     let (within, beyond) = with_target(trip, windows, target, end, flat_plan_for);
-    let mass = end.mass(&within.plan, at);
-    assert_eq!(mass.numerator % mass.denominator, 0, "a whole mass");
+    let [at_least, at_most] = end.masses(&within.plan, at);
+    assert_eq!(at_least, at_most, "a whole mass");
     let end = end.name();
     let what = format!("urban, half inside exactly at the {end} end, and one window fewer");
     Pair::of_reason(15, &what, within, beyond)

@@ -6,7 +6,7 @@ use oracle::Plan;
 
 use super::Chosen;
 use crate::case::{Case, SweepInput};
-use crate::ends::{last_mass_at, percentages, OnAnEnd, Recipe};
+use crate::ends::{last_mass_at, percentages, plan_with, OnAnEnd, Recipe};
 use crate::lanes::Lanes;
 use crate::random::Random;
 
@@ -173,17 +173,6 @@ fn dynamics(all: &mut Chosen) {
     }
 }
 
-fn curve(e1: u32, e2: u32, e3: u32, lower: u8, upper: [u8; 3]) -> Plan {
-    Plan {
-        reference: 1,
-        e1,
-        e2,
-        e3,
-        lower,
-        upper,
-    }
-}
-
 fn window(all: &mut Chosen, plan: Plan, s: i128, m: i128, n: i128) {
     // a window has at least 1 mg
     let sums = (u32::try_from(s), u32::try_from(m.max(1)));
@@ -197,11 +186,11 @@ fn window(all: &mut Chosen, plan: Plan, s: i128, m: i128, n: i128) {
 /// band.
 fn windows(all: &mut Chosen) {
     let plans = [
-        curve(200_000, 140_000, 160_000, 25, [45, 40, 35]),
-        curve(140_000, 200_000, 90_000, 0, [0, 10, 20]),
-        curve(1, 2_000_000, 1, 100, [100, 0, 50]),
-        curve(2_000_000, 1, 1, 50, [50, 25, 0]),
-        curve(150_000, 150_000, 150_000, 20, [20, 40, 60]),
+        plan_with([200_000, 140_000, 160_000], 25, [45, 40, 35]),
+        plan_with([140_000, 200_000, 90_000], 0, [0, 10, 20]),
+        plan_with([1, 2_000_000, 1], 100, [100, 0, 50]),
+        plan_with([2_000_000, 1, 1], 50, [50, 25, 0]),
+        plan_with([150_000, 150_000, 150_000], 20, [20, 40, 60]),
     ];
     let means = [
         100, 18_881, 18_882, 18_883, 30_000, 37_773, 44_999, 45_000, 45_001, 56_663, 56_664,
@@ -261,7 +250,7 @@ fn at_ends(all: &mut Chosen) {
 /// A curve that is 0 at 96,664, there, just before and just after it.
 fn at_zero(all: &mut Chosen) {
     for lower in [25, 100] {
-        let falling = curve(100_000, 40_000, 4_667, lower, [45, 40, 35]);
+        let falling = plan_with([100_000, 40_000, 4_667], lower, [45, 40, 35]);
         for s in [96_663, 96_664, 96_665] {
             window(all, falling, s, 1, 10);
             window(all, falling, 100 * s, 1, 1_000);
@@ -275,7 +264,7 @@ fn at_zero(all: &mut Chosen) {
 /// Sums that no trip has.
 fn of_any_size(all: &mut Chosen) {
     let most = i128::from(u32::MAX);
-    let plan = curve(2_000_000, 1, 2_000_000, 0, [100; 3]);
+    let plan = plan_with([2_000_000, 1, 2_000_000], 0, [100; 3]);
     for n in [1, 8_192, 8_193, 32_767, 32_768] {
         for s in [1, 6_000 * n, 12_000 * n, most] {
             on_the_band(all, plan, s, n);
