@@ -1,4 +1,5 @@
 // D of a second, and the products of the seconds that count in a bin (Appendix 7a).
+#![tactic(auto)]
 
 ghost use Rattle.std.specs.Prelude.{◌≡◌, ◌<◌, ◌≤◌, length};
 ghost use Rattle.base.specs.Words.{with_front};

@@ -1,6 +1,7 @@
 // The ground floor: the numbers that the paper names, the plan of a trip, and the tests of their
 // ranges. A number stands once for the code (limits, refusal, road, state) and once for the definitions
 // (specs/); the proofs of the tests below hold the two together.
+#![tactic(auto)]
 
 pub mod limits;
 pub mod refusal;

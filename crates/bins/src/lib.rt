@@ -1,4 +1,5 @@
 // The bins of a trip: for each its tally and its dynamics, and the totals of the tallies.
+#![tactic(auto)]
 
 ghost use Rattle.std.specs.Prelude.{◌≡◌};
 ghost use Rattle.dynamics.specs.Dynamics.{ranks_of};

@@ -3,6 +3,7 @@
 // trips. Each function takes and gives plain numbers, structs by value and lent lanes, and answers
 // as the call of the library that it stands for; the number of refusal, the place and the results
 // cross in one struct.
+#![tactic(auto)]
 
 pub mod accelerations;
 pub mod concentration;

@@ -1,6 +1,7 @@
 // Corrected altitudes and the climb of a trip (Appendix 7b, first edition), and how far apart its
 // first and last altitude are. Inside, an altitude is its code, as base::altitude_code gives it: cm
 // from 1 at the lowest altitude up; 0 says that there is none.
+#![tactic(auto)]
 
 ghost use Rattle.std.specs.Prelude.{◌≡◌, ◌<◌, ◌≤◌, nat_abs, length};
 ghost use Rattle.std.proofs.Math.IntN.{sub_ℕ};

@@ -1,5 +1,6 @@
 // The dynamics of a trip (Appendix 7a): for each bin its products, ranked, their sum and their
 // percentile.
+#![tactic(auto)]
 
 ghost use Rattle.std.specs.Prelude.{◌≡◌, ◌+◌, ◌≤◌, length};
 ghost use Rattle.base.specs.Roads.{of_each};

@@ -1,4 +1,5 @@
 // The kept seconds of a trip, its sweep run to the end, and its windows counted class by class.
+#![tactic(auto)]
 
 ghost use Rattle.std.specs.Prelude.{◌≡◌, length};
 ghost use Rattle.base.specs.Words.{with_front};

@@ -1,6 +1,7 @@
 // Standard input, read block by block into a reader and five lanes, to its end, to the first bad
 // item, or to a read that fails. No contract can say which bytes a call of C moves; the contracts
 // here say what is made of the bytes that came. specs/Input.antt says what is right.
+#![tactic(auto)]
 
 ghost use Rattle.std.specs.Prelude.{◌≡◌, false, ◌≤◌, length, take};
 ghost use Rattle.second.specs.Lanes.{lanes_of};

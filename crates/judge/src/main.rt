@@ -3,6 +3,7 @@
 // so on standard error and judges nothing. No contract can say which bytes a call of C moves; the
 // contracts here say what is made of the bytes that came, up to the text in the buffer that is
 // written out.
+#![tactic(auto)]
 
 ghost use Rattle.std.specs.Prelude.{◌≡◌, true, false, length};
 ghost use Rattle.base.specs.Words.{with_front};

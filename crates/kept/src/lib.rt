@@ -1,5 +1,6 @@
 // Kept seconds (Appendix 5): those in state 1 with a speed of at least 100. Their speeds and CO2
 // masses stand in order in lanes of their own.
+#![tactic(auto)]
 
 ghost use Rattle.std.specs.Prelude.{◌≡◌, length};
 ghost use Rattle.base.specs.Words.{with_front};

@@ -1,6 +1,7 @@
 // Whether a bin is too lively or too dull (Appendix 7a): exact comparisons, by cross-multiplying,
 // in two words where a product passes 64 bits. They hold for sums of any size that the types hold.
 // s and n are the bin's sums of speeds and seconds, t the sum of its products, q its percentile.
+#![tactic(auto)]
 
 ghost use Rattle.std.specs.Prelude.{◌≡◌, ◌+◌, ◌*◌, ltb};
 ghost use Rattle.lively.specs.Lively.{too_lively, too_dull, below_curve};

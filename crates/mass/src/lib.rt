@@ -1,6 +1,7 @@
 // From concentration to mass: one reading of the gas bench, with the setting that it was taken at,
 // gives the whole mass of the second, CO2 in mg or NOx in µg, or a refusal.
 // specs/Mass.antt says what is right, in the paper's words.
+#![tactic(auto)]
 
 ghost use Rattle.std.specs.Prelude.{◌≡◌};
 ghost use Rattle.mass.specs.Mass.{zero_to, above_zero_to, reading_in_range, setting_in_range, wet_ppm, last_product, whole_part, mass_answer, co2_mass, nox_mass};

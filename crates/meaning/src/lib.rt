@@ -1,4 +1,5 @@
 // What this build means by "valid".
+#![tactic(auto)]
 
 // The release of the meaning: the entry of docs/VALID.md by which this build answers. A change of any
 // figure, reason or refusal is a new release.

@@ -1,5 +1,6 @@
 // The 95th percentile of products (Appendix 7a): Q of a ranked slice, and the call that ranks
 // products in any order into a lent lane first.
+#![tactic(auto)]
 
 ghost use Rattle.std.specs.Prelude.{◌≡◌, ◌++◌, ◌≤◌, length, take, drop};
 ghost use Rattle.base.specs.Limits.{trip_limit};

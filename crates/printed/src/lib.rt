@@ -1,5 +1,6 @@
 // What is printed for a trip stream that was read into lanes: the stream's refusal, or else the
 // trip's, or the six lines. specs/Printed.antt says what is right, in the paper's words.
+#![tactic(auto)]
 
 ghost use Rattle.std.specs.Prelude.{◌≡◌, ◌≤◌, length};
 ghost use Rattle.second.specs.Lanes.{lanes_of};

@@ -1,5 +1,6 @@
 // Leaves that the product calls only with figures of a trip, opened to the tests with figures of any
 // size. It is no part of the library that is handed out.
+#![tactic(auto)]
 
 ghost use Rattle.std.specs.Prelude.{◌≡◌};
 ghost use Rattle.lively.specs.Lively.{too_lively, too_dull};

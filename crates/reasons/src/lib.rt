@@ -1,6 +1,7 @@
 // The sixteen reasons why a trip is not valid, one function of the trip's figures each, and one line of
 // specs/Reasons.antt. Means and shares are compared by cross-multiplying, so an empty part sets
 // neither 4 nor 5.
+#![tactic(auto)]
 
 mod numbers;
 

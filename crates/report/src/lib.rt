@@ -1,5 +1,6 @@
 // The printed lines of a trip, as bytes in a lent buffer: the six lines of a judged trip, or the
 // one line of a refusal. specs/Lines.antt says what is right, letter by letter.
+#![tactic(auto)]
 
 ghost use Rattle.std.specs.Prelude.{◌≡◌, ◌+◌, ◌*◌, ◌≤◌, leb, length};
 ghost use Rattle.text.specs.Text.{decimal};

@@ -1,6 +1,7 @@
 // The sweep over the kept seconds: it takes them one by one and closes each window as soon as its
 // CO2 mass reaches the reference. A run makes a budget of moves and can be taken up again.
 // specs/Window.antt says what a window is, specs/Sweep.antt what a move, a run and an answer are.
+#![tactic(auto)]
 
 ghost use Rattle.std.specs.Prelude.{◌≡◌, ◌^◌, ◌<◌, ◌≤◌, leb, length};
 ghost use Rattle.base.specs.Words.{sum};

@@ -1,5 +1,6 @@
 // What a trip's seconds come to: a tally for each bin, and the counts of states and speeds that the
 // reasons ask for. Each figure is one definition in specs/, a sum over a set of seconds.
+#![tactic(auto)]
 
 ghost use Rattle.std.specs.Prelude.{◌≡◌, ◌+◌, ◌^◌, ◌<◌, max};
 ghost use Rattle.base.specs.Words.{pick};

@@ -1,6 +1,7 @@
 // Words and numbers as bytes in a lent buffer. Each step writes its text from place `at` on and answers
 // the place behind it; the caller has seen to it that the text fits. specs/Text.antt says what is
 // right.
+#![tactic(auto)]
 
 ghost use Rattle.std.specs.Prelude.{◌≡◌, ◌++◌, ◌+◌, ◌<◌, ◌≤◌, length};
 ghost use Rattle.text.specs.Text.{bytes, digit, decimal, hex};

@@ -1,6 +1,7 @@
 // A whole trip: its kept seconds and windows, its bins, its climb, and the sixteen-bit verdict. The
 // work is that of the crates below; this one refuses what they cannot take, hands the lanes round
 // and puts the answer together. specs/ says what is right: Refusals, Trip, Lent.
+#![tactic(auto)]
 
 mod conclusion;
 mod refusals;

@@ -1,4 +1,5 @@
 // The verdict: a sixteen-bit number, a bit for each reason why a trip is not valid.
+#![tactic(auto)]
 
 ghost use Rattle.std.specs.Prelude.{◌≡◌, ◌≤◌};
 ghost use Rattle.climb.specs.Inside.{climb_most};

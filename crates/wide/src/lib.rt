@@ -1,4 +1,6 @@
 // Unsigned numbers of two words, for the exact comparisons, whose products and sums pass 64 bits.
+#![tactic(auto)]
+
 ghost use Rattle.std.specs.Prelude.{◌≡◌, ◌+◌, ◌*◌, ◌^◌, ◌<◌, nat_lt};
 ghost use Rattle.wide.specs.Inside.{value};
 

@@ -1,6 +1,7 @@
 // What a window is judged by, and the counts of windows: mean speed, class, curve, CO2 per km, and
 // whether the window is inside its band. specs/Figure.antt judges one window from the sums over its
 // seconds, specs/Counts.antt counts the windows of a trip.
+#![tactic(auto)]
 
 ghost use Rattle.std.specs.Prelude.{◌≡◌, true, ◌*◌, ◌^◌, ◌<◌, ◌≤◌, length};
 ghost use Rattle.base.specs.Limits.{tolerance_most};

@@ -4,28 +4,28 @@ use Rattle.base.specs.Plan.{plan_in_range}
 use Rattle.base.proofs.plan_in_range.Statement.{statement}
 use Rattle.base.proofs.plan_in_range.Tie as tie
 
-reference_in_range_requires : tie.Need-reference-in-range-requires
+reference_in_range_requires : tie.Need-reference_in_range-requires
 reference_in_range_requires c κs = search rules
 
-curve_in_range_requires : tie.Need-curve-in-range-requires
+curve_in_range_requires : tie.Need-curve_in_range-requires
 curve_in_range_requires c κs = search rules
 
-curve_in_range_requires_2 : tie.Need-curve-in-range-requires-2
+curve_in_range_requires_2 : tie.Need-curve_in_range-requires-2
 curve_in_range_requires_2 c κs = search rules
 
-curve_in_range_requires_3 : tie.Need-curve-in-range-requires-3
+curve_in_range_requires_3 : tie.Need-curve_in_range-requires-3
 curve_in_range_requires_3 c κs = search rules
 
-tolerance_in_range_requires : tie.Need-tolerance-in-range-requires
+tolerance_in_range_requires : tie.Need-tolerance_in_range-requires
 tolerance_in_range_requires c κs = search rules
 
-tolerance_in_range_requires_2 : tie.Need-tolerance-in-range-requires-2
+tolerance_in_range_requires_2 : tie.Need-tolerance_in_range-requires-2
 tolerance_in_range_requires_2 c κs = search rules
 
-tolerance_in_range_requires_3 : tie.Need-tolerance-in-range-requires-3
+tolerance_in_range_requires_3 : tie.Need-tolerance_in_range-requires-3
 tolerance_in_range_requires_3 c κs = search rules
 
-tolerance_in_range_requires_4 : tie.Need-tolerance-in-range-requires-4
+tolerance_in_range_requires_4 : tie.Need-tolerance_in_range-requires-4
 tolerance_in_range_requires_4 c κs = search rules
 
 returns : tie.Need-returns

@@ -10,16 +10,16 @@ use Rattle.wide.proofs.product.Tie as tie
 known : (c : tie.Start) → Parts c.args.a c.args.b
 known c = parts _ _ c.ranges.a.fits c.ranges.b.fits
 
-mul_hi : tie.Need-overflow-mul-hi
+mul_hi : tie.Need-overflow_mul-hi
 mul_hi c = omega (arith, known c)
 
-mul_lo : tie.Need-overflow-mul-lo
+mul_lo : tie.Need-overflow_mul-lo
 mul_lo c = omega (arith, known c)
 
-mul_across : tie.Need-overflow-mul-across
+mul_across : tie.Need-overflow_mul-across
 mul_across c = omega (arith, known c)
 
-mul_back : tie.Need-overflow-mul-back
+mul_back : tie.Need-overflow_mul-back
 mul_back c = omega (arith, known c)
 
 raised_requires : tie.Need-raised-requires
@@ -29,22 +29,22 @@ raised_requires_2 : tie.Need-raised-requires-2
 raised_requires_2 c κs = search rules
 
 -- a product moved up by half a word has a high word below 2 ^ 32
-sum_requires : tie.Need-sum-requires
+sum_requires : tie.Need-sum-middle-requires
 sum_requires c κs =
     let room = known c.before.before in
     omega
-    (arith, high_below c.before.raised.result (2 ^ 32) c.before.raised.ensures (omega (arith, room)), high_below c.raised2.result (2 ^ 32) c.raised2.ensures (omega (arith, room)))
+    (arith, high_below c.before.raised.result (2 ^ 32) c.before.raised.ensures (omega (arith, room)), high_below c.raised-2.result (2 ^ 32) c.raised-2.ensures (omega (arith, room)))
 
 -- the middle has a high word below 2 ^ 33 - 3, and the top product leaves that much
-sum_requires_2 : tie.Need-sum-requires-2
+sum_requires_2 : tie.Need-sum-requires
 sum_requires_2 c κs =
     let room = known c.before.before.before in
     omega
-    (arith, high_below c.sum.result (2 ^ 33 - 3) c.sum.ensures (rw (c.before.raised2.ensures, c.before.before.raised.ensures) (omega (arith, room))), room)
+    (arith, high_below c.sum-middle.result (2 ^ 33 - 3) c.sum-middle.ensures (rw (c.before.raised-2.ensures, c.before.before.raised.ensures) (omega (arith, room))), room)
 
 returns : tie.Need-returns
 unfolding value
-returns c = rw (c.sum2.ensures, c.before.sum.ensures, c.before.before.raised2.ensures, c.before.before.before.raised.ensures) (whole c.before.before.before.before.args.a c.before.before.before.before.args.b)
+returns c = rw (c.sum.ensures, c.before.sum-middle.ensures, c.before.before.raised-2.ensures, c.before.before.before.raised.ensures) (whole c.before.before.before.before.args.a c.before.before.before.before.args.b)
 
 pub product_spec : {M : Type 1} → statement M
 product_spec =

@@ -15,10 +15,7 @@ use mir.Val.{hbits, Fits, SFits, to_z, of_z}
 use Rattle.base.specs.Inside.{height, altitude_code}
 use Rattle.base.specs.Second.{altitude_in_range}
 use Rattle.base.proofs.Altitude.{lowest, highest, in_range_between, height_is, height_at_most, code_in_range, code_out_of_range}
-use Rattle.base.proofs.altitude_code.Statement.{statement}
-use Rattle.base.proofs.altitude_code.Tie as tie
-use Rattle.base.proofs.altitude_code.Reads as reads
-use Rattle.base.proofs.altitude_code.Lts as lts
+use Rattle.base.proofs.altitude_code.Goals as goal
 
 -- a signed number as the code reads it, from its bits
 abbrev read : ℤ → ℤ
@@ -59,38 +56,8 @@ module _ (z : ℤ) (fits : mag z < 2 ^ hbits w32) where
     inside : nat_abs (read (read z -ℤ lowest)) + 1 ≡ altitude_code z
     inside = rw above_as_is (sym (code_in_range z (in_range_as taken)))
 
-abbrev altitude : lts.After-altitude reads.Pre reads.Post → ℤ
-altitude c = get_or c.before.args.altitudes.now c.before.args.i (pos 0)
+pub returns-then-altitude : goal.returns-then-altitude
+returns-then-altitude c = inside (get_or c.args.altitudes.now c.args.i (pos 0)) c.altitude-1.given c.if-altitude.true
 
-mul_altitude : tie.Need-overflow-mul-altitude
-mul_altitude c = search rules
-
-shared_slice_copy_out_altitude : tie.Need-shared-slice-copy-out-altitude
-shared_slice_copy_out_altitude c = search rules
-
-returns_2 : tie.Need-returns-2
-returns_2 c = outside (altitude c.before) c.before.altitude.given c.if1.false
-
-returns : tie.Need-returns
-returns c = inside (altitude c.before) c.before.altitude.given c.if1.true
-
-sub_result : tie.Need-overflow-sub-result
-sub_result c = subtracts (altitude c.before) c.before.altitude.given c.if1.true
-
-cast_result : tie.Need-overflow-cast-result
-cast_result c = casts (altitude c.before) c.before.altitude.given c.if1.true
-
-add_result : tie.Need-overflow-add-result
-add_result c = adds (altitude c.before) c.before.altitude.given c.if1.true
-
-pub altitude_code_spec : {M : Type 1} → statement M
-altitude_code_spec =
-    tie.close
-    (tie.spec
-    mul_altitude
-    shared_slice_copy_out_altitude
-    sub_result
-    cast_result
-    add_result
-    returns
-    returns_2)
+pub returns-else-altitude : goal.returns-else-altitude
+returns-else-altitude c = outside (get_or c.args.altitudes.now c.args.i (pos 0)) c.altitude-1.given c.if-altitude.false
