@@ -35,7 +35,7 @@ module _ (trip : Lanes) (i : ℕ) where
       go false e₁ t₂ e₂ t₃ e₃ t₄ e₄ t₅ e₅ = if_lanes_differ (not_agree trip e₁)
       go true e₁ true e₂ t₃ e₃ t₄ e₄ t₅ e₅ = if_too_many (agree trip e₁) (ltb-true trip_limit n e₂)
       go true e₁ false e₂ true e₃ t₄ e₄ t₅ e₅ = if_out_of_range (agree trip e₁) (ltb-false trip_limit n e₂) bad (first_bad_at trip e₃)
-      go true e₁ false e₂ false e₃ true e₄ t₅ e₅ = if_no_second (agree trip e₁) (ltb-false trip_limit n e₂) (all_in_range trip e₃) (inl (facts.no_second trip e₄))
+      go true e₁ false e₂ false e₃ true e₄ t₅ e₅ = if_no_second (agree trip e₁) (ltb-false trip_limit n e₂) (all_in_range trip e₃) (inl (facts.no_second_lem trip e₄))
       go true e₁ false e₂ false e₃ false e₄ true e₅ = if_no_second (agree trip e₁) (ltb-false trip_limit n e₂) (all_in_range trip e₃) (inr (leb-true n i e₅))
       go true e₁ false e₂ false e₃ false e₄ false e₅ = fine (agree trip e₁) (ltb-false trip_limit n e₂) (all_in_range trip e₃) (some_second trip e₄) (leb-false n i e₅)
 

@@ -11,7 +11,7 @@ ghost use Rattle.acceleration.specs.Products.{products_of};
 use base::Fault;
 
 // The answer for one second.
-#[derive(Drop)]
+#[derive(Clone, Copy)]
 pub enum Acceleration {
     Rising(u16), // D, where it is not below 0
     Falling(u16), // how far D is below 0
@@ -20,7 +20,7 @@ pub enum Acceleration {
 }
 
 // The products of a bin.
-#[derive(Drop)]
+#[derive(Clone, Copy)]
 pub struct Products {
     pub count: usize, // M
     pub total: u64, // T

@@ -15,7 +15,7 @@ ghost use Rattle.base.specs.Refusal.{fault};
 ghost use Rattle.base.specs.Plan.{reference_in_range, curve_in_range, tolerance_in_range, plan_in_range};
 
 // A refusal: its number, and the index of the first bad second or value where the number is 3.
-#[derive(Drop)]
+#[derive(Clone, Copy)]
 pub struct Fault {
     pub number: u8,
     pub place: usize,
@@ -33,7 +33,7 @@ pub fn fault_at(number: u8, place: usize) -> Fault
 
 // What a trip is judged by, fixed before the drive.
 #[repr(C)]
-#[derive(Drop)]
+#[derive(Clone, Copy)]
 pub struct Plan {
     pub reference: u32, // reference CO2 mass, mg: half the laboratory cycle's
     pub e1: u32, // curve value E1, mg/km

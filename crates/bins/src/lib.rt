@@ -11,7 +11,7 @@ use tally::Tally;
 
 // A bin of the answer.
 #[repr(C)]
-#[derive(Drop)]
+#[derive(Clone, Copy)]
 pub struct Bin {
     pub seconds: u32,
     pub distance: u32, // the sum of the speeds, 0.01 km/h: one km is 360,000
@@ -23,7 +23,7 @@ pub struct Bin {
 }
 
 // The bins urban, rural, motorway, and their totals.
-#[derive(Drop)]
+#[derive(Clone, Copy)]
 pub struct Bins {
     pub each: [Bin; 3],
     pub total: Tally,

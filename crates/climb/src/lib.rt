@@ -11,7 +11,7 @@ ghost use Rattle.climb.specs.Ends.{first_with_altitude, last_with_altitude, ends
 ghost use Rattle.climb.specs.Inside.{code_most, altitude_of, climb_most, AltitudeLanes, ClimbLanes};
 
 // What the altitudes of a trip come to.
-#[derive(Drop)]
+#[derive(Clone, Copy)]
 pub struct Climbed {
     pub climb: u64, // cm
     pub high: bool, // a corrected altitude is above 130,000 cm

@@ -41,7 +41,7 @@ module _ (scale : Float) (limit kind : ℕ) (value : Float) (s : Setting) where
   outcome = go (leb kind 3) refl
     where
       of_kind : {w : Weighed} → kind ≤ 3 → mass.Outcome scale limit (reading_of kind value) s w → Outcome scale limit kind value s (answer_of w).refusal
-      of_kind known (mass.bad-input p) = bad_input known p
+      of_kind known (mass.bad_input p) = bad_input known p
       of_kind known (mass.too_large p l) = too_large known p l
       of_kind known (mass.fine p l) = fine known p l
 
@@ -57,7 +57,7 @@ module _ (scale : Float) (limit kind : ℕ) (value : Float) (s : Setting) where
   only : {number : ℕ} → Outcome scale limit kind value s number → (answer_of across).refusal ≡ number
   unfolding answer_of
   only (no_kind h) = λ i. (answer_of (if_unknown_kind (mass_answer scale limit) kind value s h i)).refusal
-  only (bad_input known p) = answered known (mass.bad-input p)
+  only (bad_input known p) = answered known (mass.bad_input p)
   only (too_large known p l) = answered known (mass.too_large p l)
   only (fine known p l) = answered known (mass.fine p l)
 
@@ -71,52 +71,52 @@ mass_zeros (Mass m) refused = absurd (refused refl)
 mass_zeros BadInput refused = refl
 mass_zeros TooLarge refused = refl
 
-pub item_zeros : (byte : ℕ) (front : Front) → (items.refusalOf front ≡ 0 → ⊥) → front_across byte front ≡ item_answer (items.refusalOf front) 0 no_contents 0 0
-unfolding front_across contents_at items.refusalOf items.length_of items.place_of
+pub item_zeros : (byte : ℕ) (front : Front) → (items.refusal_of front ≡ 0 → ⊥) → front_across byte front ≡ item_answer (items.refusal_of front) 0 no_contents 0 0
+unfolding front_across contents_at items.refusal_of items.length_of items.place_of
 item_zeros byte (Front.Whole item size) refused = absurd (refused refl)
 item_zeros byte Front.UnknownKind refused = refl
 item_zeros byte Front.Cut refused = refl
 item_zeros byte Front.PlanOutOfRange refused = refl
 item_zeros byte Front.OutOfRange refused = refl
 
-pub acceleration_zeros : (found : Acceleration) → ((d.faultIn found).number ≡ 0 → ⊥) → acceleration_across found ≡ record { refusal = (d.faultIn found).number; has_d = false; rise = 0; fall = 0; place = (d.faultIn found).place }
-unfolding acceleration_across d.faultIn
+pub acceleration_zeros : (found : Acceleration) → ((d.fault_in found).number ≡ 0 → ⊥) → acceleration_across found ≡ record { refusal = (d.fault_in found).number; has_d = false; rise = 0; fall = 0; place = (d.fault_in found).place }
+unfolding acceleration_across d.fault_in
 acceleration_zeros (Rising n) refused = absurd (refused refl)
 acceleration_zeros (Falling n) refused = absurd (refused refl)
 acceleration_zeros None refused = absurd (refused refl)
 acceleration_zeros (Refused fault) refused = refl
 
-pub percentile_zeros : (found : Answer) → ((percentiles.faultIn found).number ≡ 0 → ⊥) → percentile_across found ≡ record { refusal = (percentiles.faultIn found).number; q = 0; place = (percentiles.faultIn found).place }
-unfolding percentile_across percentiles.faultIn
+pub percentile_zeros : (found : Answer) → ((percentiles.fault_in found).number ≡ 0 → ⊥) → percentile_across found ≡ record { refusal = (percentiles.fault_in found).number; q = 0; place = (percentiles.fault_in found).place }
+unfolding percentile_across percentiles.fault_in
 percentile_zeros (Answer.Q q) refused = absurd (refused refl)
 percentile_zeros (Answer.Refused fault) refused = refl
 
 -- ---- the refusals
-pub acceleration_fault : (found : Acceleration) → fault (acceleration_across found).refusal (acceleration_across found).place ≡ d.faultIn found
-unfolding acceleration_across d.faultIn
+pub acceleration_fault : (found : Acceleration) → fault (acceleration_across found).refusal (acceleration_across found).place ≡ d.fault_in found
+unfolding acceleration_across d.fault_in
 acceleration_fault (Rising n) = refl
 acceleration_fault (Falling n) = refl
 acceleration_fault None = refl
 acceleration_fault (Refused given) = refl
 
-pub percentile_fault : (found : Answer) → fault (percentile_across found).refusal (percentile_across found).place ≡ percentiles.faultIn found
-unfolding percentile_across percentiles.faultIn
+pub percentile_fault : (found : Answer) → fault (percentile_across found).refusal (percentile_across found).place ≡ percentiles.fault_in found
+unfolding percentile_across percentiles.fault_in
 percentile_fault (Answer.Q q) = refl
 percentile_fault (Answer.Refused given) = refl
 
 -- ---- D as it crosses: whether there is one, and its value, how far it rises less how far it falls
-module _ (trip : Lanes) (i : ℕ) (passed : (d.faultOf trip i).number ≡ 0) where
-  pub d_crosses : (acceleration_across (d.accelerationOf trip i)).has_d ≡ d.hasD trip.states i
+module _ (trip : Lanes) (i : ℕ) (passed : (d.fault_of trip i).number ≡ 0) where
+  pub d_crosses : (acceleration_across (d.acceleration_of trip i)).has_d ≡ d.has_d trip.states i
   unfolding acceleration_across d.numbered
-  d_crosses = go (d.hasD trip.states i) refl
+  d_crosses = go (d.has_d trip.states i) refl
     where
       number : (z : ℤ) → (acceleration_across (d.numbered z)).has_d ≡ true
       number (pos n) = refl
       number (negsuc n) = refl
 
-      go : (has : Bool) → d.hasD trip.states i ≡ has → (acceleration_across (d.accelerationOf trip i)).has_d ≡ has
-      go true e = rw (accelerations.accepted-has trip i passed e) (number (d.dOf trip.speeds i))
-      go false e = rw (accelerations.accepted-none trip i passed e) refl
+      go : (has : Bool) → d.has_d trip.states i ≡ has → (acceleration_across (d.acceleration_of trip i)).has_d ≡ has
+      go true e = rw (accelerations.accepted_has trip i passed e) (number (d.d_of trip.speeds i))
+      go false e = rw (accelerations.accepted_none trip i passed e) refl
 
 pub rise_less_fall : (z : ℤ) → pos (acceleration_across (d.numbered z)).rise -ℤ pos (acceleration_across (d.numbered z)).fall ≡ z
 unfolding acceleration_across d.numbered

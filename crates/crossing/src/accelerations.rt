@@ -11,7 +11,7 @@ use percentile::Answer;
 
 // D of one second: a number, or none.
 #[repr(C)]
-#[derive(Drop)]
+#[derive(Clone, Copy)]
 pub struct AccelerationAnswer {
     pub refusal: u8, // 0, 1, 2, 3 or 4
     pub has_d: bool,
@@ -67,7 +67,7 @@ pub fn acceleration(
 
 // Q of products.
 #[repr(C)]
-#[derive(Drop)]
+#[derive(Clone, Copy)]
 pub struct PercentileAnswer {
     pub refusal: u8, // 0, 2, 12, 6 or 3
     pub q: u64,

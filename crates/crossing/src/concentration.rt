@@ -8,7 +8,7 @@ use mass::{Reading, Setting, Weighed};
 
 // The answer of a mass call.
 #[repr(C)]
-#[derive(Drop)]
+#[derive(Clone, Copy)]
 pub struct MassAnswer {
     pub refusal: u8, // 0, 9 or 10
     pub mass: u32, // CO2 in mg or NOx in µg, 0 in a refusal

@@ -9,7 +9,7 @@ use second::Row;
 
 // One item. Only the members of its kind are set.
 #[repr(C)]
-#[derive(Drop)]
+#[derive(Clone, Copy)]
 pub struct ItemAnswer {
     pub refusal: u8, // 0, 8, 7, 5 or 3
     pub kind: u8, // the kind byte; 0 in a refusal
@@ -37,7 +37,7 @@ pub fn item(bytes: &[u8]) -> ItemAnswer
 }
 
 // What an item holds: a plan or a second, and zeros for the other.
-#[derive(Drop)]
+#[derive(Clone, Copy)]
 struct Contents {
     pub row: Row,
     pub plan: Plan,

@@ -12,7 +12,7 @@ ghost use Rattle.dynamics.specs.Dynamics.{dynamics_of, ranks_of};
 ghost use Rattle.dynamics.specs.Inside.{DynamicsLanes, placed};
 
 // What the dynamics of a bin come to.
-#[derive(Drop)]
+#[derive(Clone, Copy)]
 pub struct Figures {
     pub m: u32, // how many products
     pub t: u64, // their sum

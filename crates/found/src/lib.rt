@@ -14,7 +14,7 @@ use sweep::SweepState;
 use windows::ClassCount;
 
 // The kept seconds and windows of a trip.
-#[derive(Drop)]
+#[derive(Clone, Copy)]
 pub struct Found {
     pub kept: u32,
     pub windows: u32, // unclassed ones too

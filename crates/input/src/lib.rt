@@ -20,7 +20,7 @@ pub const BLOCK: usize = 4_096;
 const READS: usize = kind::PLAN_SIZE + limits::TRIP * kind::LONGEST_SECOND + kind::LONGEST;
 
 // Where the reading of the input stands.
-#[derive(Drop)]
+#[derive(Clone, Copy)]
 pub struct Input {
     pub reader: Reader,
     pub came: usize, // how many bytes the last read brought

@@ -8,7 +8,7 @@ ghost use Rattle.mass.specs.Mass.{zero_to, above_zero_to, reading_in_range, sett
 ghost use Rattle.mass.specs.Inside.{Bounded};
 
 // What the gas bench read. Ppm runs 0 to 200,000, percent 0 to 20.
-#[derive(Drop)]
+#[derive(Clone, Copy)]
 pub enum Reading {
     WetPpm(f64),
     DryPpm(f64),
@@ -18,7 +18,7 @@ pub enum Reading {
 
 // What the reading was taken at.
 #[repr(C)]
-#[derive(Drop)]
+#[derive(Clone, Copy)]
 pub struct Setting {
     pub u: f64, // above 0, at most 0.01
     pub factor: f64, // the dry-wet factor: above 0, at most 1
@@ -26,7 +26,7 @@ pub struct Setting {
 }
 
 // The answer of the mass step.
-#[derive(Drop)]
+#[derive(Clone, Copy)]
 pub enum Weighed {
     Mass(u32), // accepted: the whole mass
     BadInput, // refusal 9: a mass input not finite or out of range

@@ -12,7 +12,7 @@ ghost use Rattle.percentile.specs.Percentile.{q_of, q_or_zero, first_bad_product
 use base::Fault;
 
 // The answer of the percentile call.
-#[derive(Drop)]
+#[derive(Clone, Copy)]
 pub enum Answer {
     Q(u64),
     Refused(Fault), // 2, 12, 6 or 3

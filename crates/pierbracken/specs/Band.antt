@@ -33,27 +33,27 @@ whole_numbers = fractions.wholes
 
 -- ---- mean, curve and figure of a window have a denominator above zero
 pub mean_denominator : (s n : ℕ) → 0 < n → 0 < (mean_speed s n).denominator
-mean_denominator = band.mean-proper
+mean_denominator = band.mean_proper
 
 pub curve_denominator : (plan : Plan) (s n : ℕ) → 0 < n → 0 < (curve plan (mean_speed s n)).denominator
-curve_denominator = band.curve-proper
+curve_denominator = band.curve_proper
 
 pub figure_denominator : (s m : ℕ) → 0 < s → 0 < (mass_per_km s m).denominator
-figure_denominator = band.figure-proper
+figure_denominator = band.figure_proper
 
 -- ---- the class
 -- "Urban: v < 45,000 ..": by the mean rounded down, as before, or by the exact one, a mean is below the same whole numbers
 pub class_by_floor : (s n border : ℕ) → 0 < n → below (mean_speed s n) (whole border) ≡ ltb (10 * s / n) border
-class_by_floor = band.floor-below
+class_by_floor = band.floor_below
 
 -- ---- the curve
 -- "the first up to 56,664 itself": there both lines have the value E2
 module _ (plan : Plan) (s n : ℕ) (at_the_turn : 10 * s ≡ speed_of_e2 * n) where
   pub first_line_meets : IsNumber (line_at plan.e1 plan.e2 speed_of_e1 from_e1_to_e2 (mean_speed s n)) plan.e2
-  first_line_meets = band.first-at-turn plan.e1 plan.e2 s n at_the_turn
+  first_line_meets = band.first_at_turn plan.e1 plan.e2 s n at_the_turn
 
   pub second_line_meets : IsNumber (line_at plan.e2 plan.e3 speed_of_e2 from_e2_to_e3 (mean_speed s n)) plan.e2
-  second_line_meets = band.second-at-turn plan.e2 plan.e3 s n at_the_turn
+  second_line_meets = band.second_at_turn plan.e2 plan.e3 s n at_the_turn
 
 -- ---- the band
 -- multiplied out: with c = (above - under) / wn on the line from e at a to f at a + w, and the figure 360,000 m / S
@@ -65,7 +65,7 @@ pub multiplied_out :
     in_band lower upper (line_at e f a w (mean_speed s n)) (mass_per_km s m)
     ≡ leb ((100 - lower) * above * s) (figure + (100 - lower) * under * s)
     && leb (figure + (100 + upper) * under * s) ((100 + upper) * above * s)
-multiplied_out = band.multiplied-out
+multiplied_out = band.multiplied_out
 
 -- where the curve is at or below 0 no window is inside, whatever the tolerances: it has a mass
 pub never_inside :
@@ -74,8 +74,8 @@ pub never_inside :
     0 < m →
     at_most c (whole 0) ≡ true →
     in_band lower upper c (mass_per_km s m) ≡ false
-never_inside = band.never-inside
+never_inside = band.never_inside
 
 -- with a lower tolerance of 100 percent the lower comparison always holds
 pub no_lower_end : (c : Fraction) (s m : ℕ) → at_most (times (whole (100 - 100)) c) (times (whole 100) (mass_per_km s m)) ≡ true
-no_lower_end = band.no-lower-end
+no_lower_end = band.no_lower_end

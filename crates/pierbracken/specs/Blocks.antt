@@ -29,7 +29,7 @@ module _ (room : ℕ) (blocks : List (List ℕ)) where
   pub same_lane {ℓ} :
       {A : Type ℓ} (value : Row → A) (lane : List A) → room ≤ length lane → (read_of room (flatten blocks)).refusal ≡ 0 →
       lane_all value room started blocks lane ≡ lane_after value room (flatten blocks) lane
-  same_lane value lane = whole.blocks-lane room blocks value lane
+  same_lane value lane = whole.blocks_lane room blocks value lane
 
 -- all five lanes, each fed block by block
 abbrev pub lanes_all : List (List ℕ) → Lanes → Lanes
@@ -41,15 +41,15 @@ same_lanes blocks lanes z =
 
 -- feeding a and then b is feeding both as one: the reader and the lanes
 pub reader_in_two : (room : ℕ) (r : Reader) (a b : List ℕ) → reader_after room (reader_after room r a) b ≡ reader_after room r (a ++ b)
-reader_in_two room r a b = feeding.fed-in-two room r a b
+reader_in_two room r a b = feeding.fed_in_two room r a b
 
 pub lane_in_two {ℓ} : {A : Type ℓ} (value : Row → A) (room : ℕ) (r : Reader) (a b : List ℕ) (lane : List A) → lane_with value room (reader_after room r a) b (lane_with value room r a lane) ≡ lane_with value room r (a ++ b) lane
-lane_in_two = feeding.lane-in-two
+lane_in_two = feeding.lane_in_two
 
 -- refusal 13 is given exactly for a reader to which no stream leads; a reader holds an array of `carry_places` bytes
 module _ (r : Reader) (places : length r.held ≡ carry_places) (bytes : Bytes r.held) where
   pub feed_refused : (room : ℕ) (block : List ℕ) → ((fed_of room r block).refusal ≡ 13) ↔ (Reached r → ⊥)
-  feed_refused = reached.feed-refused r places bytes
+  feed_refused = reached.feed_refused r places bytes
 
   pub end_refused : ((end_of r).refusal ≡ 13) ↔ (Reached r → ⊥)
   end_refused = reached.end_refused r places bytes

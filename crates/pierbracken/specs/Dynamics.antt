@@ -10,20 +10,20 @@ use Rattle.crossing.proofs.Theorems as crossing
 
 module _ (lanes : Lanes) (i : ℕ) (accepted : (fault_in (acceleration_of lanes i)).number ≡ 0) where
   passed : (fault_of lanes i).number ≡ 0
-  passed = sym (λ k. (acceleration.answer-fault lanes i k).number) ∙ accepted
+  passed = sym (λ k. (acceleration.answer_fault lanes i k).number) ∙ accepted
 
   -- a second that has D: it is the next speed minus the previous
   pub d_value : has_d lanes.states i ≡ true → acceleration_of lanes i ≡ numbered (pos (speed_after lanes.speeds i) -ℤ pos (speed_before lanes.speeds i))
   unfolding d_of
-  d_value = acceleration.accepted-has lanes i passed
+  d_value = acceleration.accepted_has lanes i passed
 
   -- one that has none is answered so
   pub d_none : has_d lanes.states i ≡ false → acceleration_of lanes i ≡ None
-  d_none = acceleration.accepted-none lanes i passed
+  d_none = acceleration.accepted_none lanes i passed
 
   -- to C the two cross as has_d, and D as rise less fall
   pub d_crosses : (acceleration_across (acceleration_of lanes i)).has_d ≡ has_d lanes.states i
-  d_crosses = crossing.d-crosses lanes i passed
+  d_crosses = crossing.d_crosses lanes i passed
 
 pub rise_less_fall : (d : ℤ) → pos (acceleration_across (numbered d)).rise -ℤ pos (acceleration_across (numbered d)).fall ≡ d
-rise_less_fall = crossing.rise-less-fall
+rise_less_fall = crossing.rise_less_fall

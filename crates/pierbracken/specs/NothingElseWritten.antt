@@ -35,23 +35,23 @@ module _ {ℓ} {A : Type ℓ} (value : Row → A) (room : ℕ) (bytes : List ℕ
 
   -- "touches no place beyond the seconds read"
   pub stream_accepted : (read_of room bytes).refusal ≡ 0 → room ≤ length lane → InFront (map value (seconds_of room bytes)) (read_of room bytes).seconds lane (lane_after value room bytes lane)
-  stream_accepted = stream.accepted-writes value room bytes lane
+  stream_accepted = stream.accepted_writes value room bytes lane
 
 -- ---- a stream in blocks: the seconds of a block behind those read before
 module _ {ℓ} {A : Type ℓ} (value : Row → A) (room : ℕ) (reader : Reader) (block : List ℕ) (lane : List A) where
   pub block_refused : ((fed_of room reader block).refusal ≡ 0 → ⊥) → lane_fed value room reader block lane ≡ lane
-  block_refused = blocks.refused-writes-nothing value room reader block lane
+  block_refused = blocks.refused_writes_nothing value room reader block lane
 
   pub block_accepted : (fed_of room reader block).refusal ≡ 0 → room ≤ length lane → StoredFrom reader.seconds (map value (seconds_added room reader block)) lane (lane_fed value room reader block lane)
-  block_accepted = blocks.accepted-writes value room reader block lane
+  block_accepted = blocks.accepted_writes value room reader block lane
 
 -- ---- the sweep: "a call writes only the places of windows it closes"
 module _ (reference : ℕ) (co2 ends : List ℕ) (state : SweepState) (budget : ℕ) where
   pub sweep_refused : ((sweep_answer reference co2 (length ends) state budget).refusal ≡ 0 → ⊥) → sweep_ends reference co2 ends state budget ≡ ends
-  sweep_refused = sweep.refused-writes-nothing reference co2 ends state budget
+  sweep_refused = sweep.refused_writes_nothing reference co2 ends state budget
 
   pub sweep_accepted : (sweep_answer reference co2 (length ends) state budget).refusal ≡ 0 → Written reference co2 state (after_moves reference co2 budget state) ends (sweep_ends reference co2 ends state budget)
-  sweep_accepted = sweep.accepted-writes reference co2 ends state budget
+  sweep_accepted = sweep.accepted_writes reference co2 ends state budget
 
 -- ---- the percentile: "ranks them into a lent lane with a place for each"
 module _ (values lane : List ℕ) where
@@ -59,20 +59,20 @@ module _ (values lane : List ℕ) where
   percentile_refused = percentile_refusals.lane-refused values lane
 
   pub percentile_accepted : (fault_of values (length lane)).number ≡ 0 → InFront (sort values) (length values) lane (lane_of values lane)
-  percentile_accepted = percentile.accepted-writes values lane
+  percentile_accepted = percentile.accepted_writes values lane
 
 -- ---- the trip: the kept lanes, the ends and the ranks
 module _ (plan : Plan) (trip : Lanes) (lent : Lent) where
   pub trip_refused : ((answer_of plan trip (rooms_in lent)).refusal ≡ 0 → ⊥) → lent_left plan trip lent ≡ lent
-  trip_refused = trips.refused-writes-nothing plan trip lent
+  trip_refused = trips.refused_writes_nothing plan trip lent
 
   pub trip_accepted : (answer_of plan trip (rooms_in lent)).refusal ≡ 0 → Leaves plan trip lent (lent_left plan trip lent)
-  trip_accepted = trips.accepted-writes plan trip lent
+  trip_accepted = trips.accepted_writes plan trip lent
 
 -- ---- the printed lines: a text that does not fit changes nothing, one that fits only its own places
 module _ (text buffer : List ℕ) where
   pub text_short : length buffer < length text → buffer_written text buffer ≡ buffer
-  text_short = fitting.short-buffer text buffer
+  text_short = fitting.short_buffer text buffer
 
   pub text_fits : length text ≤ length buffer → InFront text (length text) buffer (buffer_written text buffer)
-  text_fits = report.text-written text buffer
+  text_fits = report.text_written text buffer

@@ -85,40 +85,40 @@ through e says x = (λ p. (says x).0 (sym e ∙ p), λ h. e ∙ (says x).1 h)
 -- "Mass: 9, then 10"
 pub co2_mass_lem : (reading : Reading) (setting : Setting) (answer : Weighed) → (co2_mass reading setting ≡ answer) ↔ mass_outcomes.Outcome mg_in_a_gram co2_most reading setting answer
 unfolding co2_mass
-co2_mass_lem reading setting answer = mass.refused-exactly mg_in_a_gram co2_most reading setting answer
+co2_mass_lem reading setting answer = mass.refused_exactly mg_in_a_gram co2_most reading setting answer
 
 pub nox_mass_lem : (reading : Reading) (setting : Setting) (answer : Weighed) → (nox_mass reading setting ≡ answer) ↔ mass_outcomes.Outcome µg_in_a_gram nox_most reading setting answer
 unfolding nox_mass
-nox_mass_lem reading setting answer = mass.refused-exactly µg_in_a_gram nox_most reading setting answer
+nox_mass_lem reading setting answer = mass.refused_exactly µg_in_a_gram nox_most reading setting answer
 
 -- "one item .. (8, 7, then 5 or 3; an empty slice is 7)"
 pub one_item : (bytes : List ℕ) (number : ℕ) → (refusal_of (item_of bytes) ≡ number) ↔ item_outcomes.Outcome bytes number
-one_item bytes number = item.refused-exactly bytes number
+one_item bytes number = item.refused_exactly bytes number
 
 -- "Stream: the first bad item counts, within it 8, 7, 11, 5 or 3, 2, 6; an empty stream is 11 at 0"
 pub whole_stream : (room : ℕ) (bytes : List ℕ) (answer : ReadAnswer) → (read_of room bytes ≡ answer) ↔ stream_outcomes.Outcome room bytes answer
-whole_stream room bytes answer = stream.refused-exactly room bytes answer
+whole_stream room bytes answer = stream.refused_exactly room bytes answer
 
 -- "Sweep: 5 (its reference), 2, 6, 3, 13", and the place of a refusal
 pub sweeping : (reference : ℕ) (co2 : List ℕ) (room : ℕ) (state : SweepState) (budget number : ℕ) → ((sweep_answer reference co2 room state budget).refusal ≡ number) ↔ sweep_outcomes.Outcome reference co2 room state number
-sweeping reference co2 room state budget number = sweep.answered-exactly reference co2 room state budget number
+sweeping reference co2 room state budget number = sweep.answered_exactly reference co2 room state budget number
 
 pub sweeping_place : (reference : ℕ) (co2 : List ℕ) (room : ℕ) (state : SweepState) (budget : ℕ) → (sweep_answer reference co2 room state budget).place ≡ place_of co2 (sweep_answer reference co2 room state budget).refusal
 sweeping_place reference co2 room state budget =
-    let same = sweep.answer-refusal reference co2 room state budget in
+    let same = sweep.answer_refusal reference co2 room state budget in
     rw same.0 same.1
 
 -- D of one second: "(1, 2, 3, 4)"
-pub d_of_second : (lanes : Lanes) (i : ℕ) (given : Fault) → (d.faultIn (d.accelerationOf lanes i) ≡ given) ↔ d_outcomes.Outcome lanes i given
-d_of_second lanes i = through (acceleration.answer-fault lanes i) (acceleration.refused-exactly lanes i)
+pub d_of_second : (lanes : Lanes) (i : ℕ) (given : Fault) → (d.fault_in (d.acceleration_of lanes i) ≡ given) ↔ d_outcomes.Outcome lanes i given
+d_of_second lanes i = through (acceleration.answer_fault lanes i) (acceleration.refused_exactly lanes i)
 
 -- "Percentile: 2, 12, 6, 3"
-pub ranking : (values : List ℕ) (places : ℕ) (given : Fault) → (percentiles.faultIn (percentiles.answer_of values places) ≡ given) ↔ percentile_outcomes.Outcome values places given
-ranking values places = through (percentile.answer-fault values places) (percentile.refused-exactly values places)
+pub ranking : (values : List ℕ) (places : ℕ) (given : Fault) → (percentiles.fault_in (percentiles.answer_of values places) ≡ given) ↔ percentile_outcomes.Outcome values places given
+ranking values places = through (percentile.answer_fault values places) (percentile.refused_exactly values places)
 
 -- "Trip: 5, 1, 2, 6, 3, 4"
 pub whole_trip : (plan : Plan) (lanes : Lanes) (rooms : Rooms) (given : Fault) → (fault (answer_of plan lanes rooms).refusal (answer_of plan lanes rooms).place ≡ given) ↔ trip_outcomes.Given plan lanes rooms given
-whole_trip plan lanes rooms = through (trip.answer-fault plan lanes rooms) (trip.refused-exactly plan lanes rooms)
+whole_trip plan lanes rooms = through (trip.answer_fault plan lanes rooms) (trip.refused_exactly plan lanes rooms)
 
 -- ---- the calls
 -- every result that a contract allows, seen by `look`, is y exactly when `outcome` holds of y
@@ -145,22 +145,22 @@ of_call call {look = look} law =
 
 -- the mass of a second, in the library a reading, in C a kind and a value
 pub co2_mass_refused : RefusedAs co2_mass_call.Post (λ κs x. x) (λ κs a. mass_outcomes.Outcome mg_in_a_gram co2_most a.0 a.1.0)
-co2_mass_refused = of_call calls.co2-mass (λ κs a. co2_mass_lem a.0 a.1.0)
+co2_mass_refused = of_call calls.co2_mass_lem (λ κs a. co2_mass_lem a.0 a.1.0)
 
 pub nox_mass_refused : RefusedAs nox_mass_call.Post (λ κs x. x) (λ κs a. mass_outcomes.Outcome µg_in_a_gram nox_most a.0 a.1.0)
-nox_mass_refused = of_call calls.nox-mass (λ κs a. nox_mass_lem a.0 a.1.0)
+nox_mass_refused = of_call calls.nox_mass_lem (λ κs a. nox_mass_lem a.0 a.1.0)
 
 pub pb_mass_co2_refused : RefusedAs pb_mass_co2_call.Post (λ κs x. x.refusal) (λ κs a. crossing_outcomes.Outcome mg_in_a_gram co2_most a.0 a.1.0 a.1.1.0)
 unfolding co2_mass
-pb_mass_co2_refused = of_call from_c.pb-mass-co2 (λ κs a. crossing.mass-exactly mg_in_a_gram co2_most a.0 a.1.0 a.1.1.0)
+pb_mass_co2_refused = of_call from_c.pb-mass-co2 (λ κs a. crossing.mass_exactly mg_in_a_gram co2_most a.0 a.1.0 a.1.1.0)
 
 pub pb_mass_nox_refused : RefusedAs pb_mass_nox_call.Post (λ κs x. x.refusal) (λ κs a. crossing_outcomes.Outcome µg_in_a_gram nox_most a.0 a.1.0 a.1.1.0)
 unfolding nox_mass
-pb_mass_nox_refused = of_call from_c.pb-mass-nox (λ κs a. crossing.mass-exactly µg_in_a_gram nox_most a.0 a.1.0 a.1.1.0)
+pb_mass_nox_refused = of_call from_c.pb-mass-nox (λ κs a. crossing.mass_exactly µg_in_a_gram nox_most a.0 a.1.0 a.1.1.0)
 
 -- one item
 pub item_refused : RefusedAs read_item_call.Post (λ κs x. refusal_of x) (λ κs a. item_outcomes.Outcome a.0.now)
-item_refused = of_call calls.read-item (λ κs a. one_item a.0.now)
+item_refused = of_call calls.read_item (λ κs a. one_item a.0.now)
 
 pub pb_item_refused : RefusedAs pb_item_call.Post (λ κs x. x.refusal) (λ κs a. item_outcomes.Outcome a.0.now)
 unfolding front_across
@@ -169,10 +169,10 @@ pb_item_refused = of_call from_c.pb-item (λ κs a. one_item a.0.now)
 -- a whole stream
 abbrev StreamRefused : contract.Out stream_lanes stream_kinds.ps stream_kinds.r → Type 0
 StreamRefused allows =
-    RefusedAs allows (λ κs x. x) (λ κs a. stream_outcomes.Outcome (room_in (calls.lanesToFill κs a)) a.0.now)
+    RefusedAs allows (λ κs x. x) (λ κs a. stream_outcomes.Outcome (room_in (calls.lanes_to_fill κs a)) a.0.now)
 
 pub stream_refused : StreamRefused read_stream_call.Post
-stream_refused = of_call calls.read-stream (λ κs a. whole_stream _ a.0.now)
+stream_refused = of_call calls.read_stream (λ κs a. whole_stream _ a.0.now)
 
 pub pb_read_refused : StreamRefused pb_read_call.Post
 pb_read_refused = of_call from_c.pb-read (λ κs a. whole_stream _ a.0.now)
@@ -189,18 +189,18 @@ pub pb_sweep_refused : SweepRefused pb_sweep_call.Post
 pb_sweep_refused = of_call from_c.pb-sweep (λ κs a. sweeping a.0 a.1.0.now (length a.1.1.0.now) a.1.1.1.0 a.1.1.1.1.0)
 
 -- D of one second
-pub d_refused : RefusedAs d_of_second_call.Post (λ κs x. d.faultIn x) (λ κs a. d_outcomes.Outcome (lanes_before κs a) (index_behind κs a))
-d_refused = of_call calls.d-of-second (λ κs a. d_of_second (lanes_before κs a) (index_behind κs a))
+pub d_refused : RefusedAs d_of_second_call.Post (λ κs x. d.fault_in x) (λ κs a. d_outcomes.Outcome (lanes_before κs a) (index_behind κs a))
+d_refused = of_call calls.d_of_second (λ κs a. d_of_second (lanes_before κs a) (index_behind κs a))
 
 pub pb_acceleration_refused : RefusedAs pb_acceleration_call.Post (λ κs x. fault x.refusal x.place) (λ κs a. d_outcomes.Outcome (lanes_before κs a) (index_behind κs a))
-pb_acceleration_refused = of_call from_c.pb-acceleration (λ κs a. through (crossing.acceleration-fault _) (d_of_second (lanes_before κs a) (index_behind κs a)))
+pb_acceleration_refused = of_call from_c.pb-acceleration (λ κs a. through (crossing.acceleration_fault _) (d_of_second (lanes_before κs a) (index_behind κs a)))
 
 -- the percentile
-pub percentile_refused : RefusedAs percentile_call.Post (λ κs x. percentiles.faultIn x) (λ κs a. percentile_outcomes.Outcome a.0.now (length a.1.0.now))
+pub percentile_refused : RefusedAs percentile_call.Post (λ κs x. percentiles.fault_in x) (λ κs a. percentile_outcomes.Outcome a.0.now (length a.1.0.now))
 percentile_refused = of_call calls.percentile (λ κs a. ranking a.0.now (length a.1.0.now))
 
 pub pb_percentile_refused : RefusedAs pb_percentile_call.Post (λ κs x. fault x.refusal x.place) (λ κs a. percentile_outcomes.Outcome a.0.now (length a.1.0.now))
-pb_percentile_refused = of_call from_c.pb-percentile (λ κs a. through (crossing.percentile-fault _) (ranking a.0.now (length a.1.0.now)))
+pb_percentile_refused = of_call from_c.pb-percentile (λ κs a. through (crossing.percentile_fault _) (ranking a.0.now (length a.1.0.now)))
 
 -- a trip
 abbrev TripRefused : contract.Out evaluation_lanes trip_kinds.ps trip_kinds.r → Type 0
@@ -219,45 +219,45 @@ TextRefused {L} {In} {Exit} allows text buffer =
     (κs : L) (inputs : In κs) (x : ℕ) (e : Exit κs) → allows κs inputs x e → (x ≡ 0) ↔ (length (buffer κs inputs) < length (text κs inputs))
 
 pub report_refused : TextRefused report_call.Post (λ κs a. judged_text a.0) (λ κs a. a.1.0.now)
-report_refused κs a x e p = rw p.0 (fitting.zero-exactly (judged_text a.0) a.1.0.now (texts.judged-some a.0))
+report_refused κs a x e p = rw p.0 (fitting.zero_exactly (judged_text a.0) a.1.0.now (texts.judged_some a.0))
 
 pub report_refusal_refused : TextRefused report_refusal_call.Post (λ κs a. refusal_text a.0 a.1.0) (λ κs a. a.1.1.0.now)
-report_refusal_refused κs a x e p = rw p.0 (fitting.zero-exactly (refusal_text a.0 a.1.0) a.1.1.0.now (texts.refusal-some a.0 a.1.0))
+report_refusal_refused κs a x e p = rw p.0 (fitting.zero_exactly (refusal_text a.0 a.1.0) a.1.1.0.now (texts.refusal_some a.0 a.1.0))
 
 pub write_text_refused : TextRefused write_text_call.Post text_printed print_buffer
-write_text_refused κs a x e p = rw p.0 (fitting.zero-exactly _ _ (printed.text-some a.0 _ _))
+write_text_refused κs a x e p = rw p.0 (fitting.zero_exactly _ _ (printed.text_some a.0 _ _))
 
 -- ---- "A refusal returns its number and a place .., with all other results zero": the stream's `Outcome` says so of its own, and the
 -- answers by cases of the mass, of D and of the percentile have nothing beside a refusal
 pub no_length : (front : Front) → (refusal_of front ≡ 0 → ⊥) → length_of front ≡ 0
-no_length = item.refused-no-length
+no_length = item.refused_no_length
 
 pub sweep_zeros :
     (reference : ℕ) (co2 : List ℕ) (room : ℕ) (state : SweepState) (budget : ℕ) →
     ((sweep_answer reference co2 room state budget).refusal ≡ 0 → ⊥) →
     sweep_answer reference co2 room state budget ≡ refused_answer co2 (sweep_answer reference co2 room state budget).refusal
-sweep_zeros = sweep.refused-zeros
+sweep_zeros = sweep.refused_zeros
 
 pub trip_zeros :
     (plan : Plan) (lanes : Lanes) (rooms : Rooms) → ((answer_of plan lanes rooms).refusal ≡ 0 → ⊥) →
     answer_of plan lanes rooms ≡ refused (fault (answer_of plan lanes rooms).refusal (answer_of plan lanes rooms).place)
-trip_zeros = trips.refused-zeros
+trip_zeros = trips.refused_zeros
 
 -- of the structs that cross to C
 pub pb_mass_zeros :
     (answer : Weighed) → ((concentration.answer_of answer).refusal ≡ 0 → ⊥) →
     concentration.answer_of answer ≡ record { refusal = (concentration.answer_of answer).refusal; mass = 0; place = 0 }
-pb_mass_zeros = crossing.mass-zeros
+pb_mass_zeros = crossing.mass_zeros
 
 pub pb_item_zeros : (byte : ℕ) (front : Front) → (refusal_of front ≡ 0 → ⊥) → front_across byte front ≡ item_answer (refusal_of front) 0 no_contents 0 0
-pb_item_zeros = crossing.item-zeros
+pb_item_zeros = crossing.item_zeros
 
 pub pb_acceleration_zeros :
-    (answer : Acceleration) → ((d.faultIn answer).number ≡ 0 → ⊥) →
-    acceleration_across answer ≡ record { refusal = (d.faultIn answer).number; has_d = false; rise = 0; fall = 0; place = (d.faultIn answer).place }
-pb_acceleration_zeros = crossing.acceleration-zeros
+    (answer : Acceleration) → ((d.fault_in answer).number ≡ 0 → ⊥) →
+    acceleration_across answer ≡ record { refusal = (d.fault_in answer).number; has_d = false; rise = 0; fall = 0; place = (d.fault_in answer).place }
+pb_acceleration_zeros = crossing.acceleration_zeros
 
 pub pb_percentile_zeros :
-    (answer : Answer) → ((percentiles.faultIn answer).number ≡ 0 → ⊥) →
-    percentile_across answer ≡ record { refusal = (percentiles.faultIn answer).number; q = 0; place = (percentiles.faultIn answer).place }
-pb_percentile_zeros = crossing.percentile-zeros
+    (answer : Answer) → ((percentiles.fault_in answer).number ≡ 0 → ⊥) →
+    percentile_across answer ≡ record { refusal = (percentiles.fault_in answer).number; q = 0; place = (percentiles.fault_in answer).place }
+pb_percentile_zeros = crossing.percentile_zeros

@@ -20,23 +20,23 @@ use Rattle.trip.proofs.Verdict as verdict
 module _ (plan : Plan) (lanes : Lanes) where
   -- seconds, distance, CO2 and NOx of the three bins are those of the trip
   pub bins_add_up : SumsUp plan lanes
-  bins_add_up = trip.sums-up plan lanes
+  bins_add_up = trip.sums_up plan lanes
 
   -- the answer's classes are the counts of the windows of its kept seconds
   pub classes_counted : let count = class_count plan (speeds_kept plan lanes) (co2_kept plan lanes) in (evaluated plan lanes).classes ≡ count urban ∷ count rural ∷ count motorway ∷ []
-  classes_counted = verdict.classes-counted plan lanes
+  classes_counted = verdict.classes_counted plan lanes
 
   -- the seconds of an accepted trip: those of the bins, and the missing
   pub seconds_add_up : (rooms : Rooms) → (answer_of plan lanes rooms).refusal ≡ 0 → (evaluated plan lanes).total.seconds + (evaluated plan lanes).missing ≡ (evaluated plan lanes).seconds
-  seconds_add_up rooms z = trip.seconds-less-missing plan lanes (trip.accepted-passed plan lanes rooms z)
+  seconds_add_up rooms z = trip.seconds_less_missing plan lanes (trip.accepted_passed plan lanes rooms z)
 
 -- the windows of the three classes and those without one are all windows
 pub windows_add_up : (plan : Plan) (speeds co2 : List ℕ) → let count = class_count plan speeds co2 in (count urban).windows + (count rural).windows + (count motorway).windows + (count unclassed).windows ≡ windows plan.reference co2
-windows_add_up = counts.classes-add-up
+windows_add_up = counts.classes_add_up
 
 -- the ranking lane holds `sort` of each bin's products: they ascend, and each stands there as often as among the products
 pub ranks_ascend : (products : List ℕ) → Ascending (sort products)
-ranks_ascend = ranking.sort-ascending
+ranks_ascend = ranking.sort_ascending
 
 pub ranks_same : (product : ℕ) (products : List ℕ) → count product (sort products) ≡ count product products
 ranks_same = ranking.sort-count

@@ -20,11 +20,11 @@ module _ (reference : ℕ) (co2 : List ℕ) where
 
   -- every kept second whose run can reach the reference has a window
   pub none_left_out : (f l : ℕ) → f ≤ l → l < length co2 → reference ≤ sum (from_to f l co2) → has_window reference co2 f ≡ true
-  none_left_out = runs.can-have reference co2
+  none_left_out = runs.can_have reference co2
 
   -- ends never step back
   pub ends_rise : 1 ≤ reference → (f g : ℕ) → f ≤ g → has_window reference co2 g ≡ true → window_last reference co2 f ≤ window_last reference co2 g
-  ends_rise = runs.ends-rise reference co2
+  ends_rise = runs.ends_rise reference co2
 
   -- ---- the moves
   -- stopped by its budget after k moves, it has made k and stands where the rule says
@@ -33,7 +33,7 @@ module _ (reference : ℕ) (co2 : List ℕ) where
 
   -- from the beginning, the sweep is over after exactly kept plus windows moves, and not before
   pub over_exactly : 1 ≤ reference → (k : ℕ) → (is_over reference co2 (after_moves reference co2 k beginning) ≡ true) ↔ (length co2 + windows reference co2 ≤ k)
-  over_exactly positive = finished.over-exactly reference co2 positive
+  over_exactly positive = finished.over_exactly reference co2 positive
 
 module _ (reference : ℕ) (co2 ends : List ℕ) where
   -- "makes exactly that many, or fewer only because the sweep is over"
@@ -44,7 +44,7 @@ module _ (reference : ℕ) (co2 ends : List ℕ) where
   pub moves_counted :
       (state : SweepState) → Accepted reference co2 (length ends) state → (budget : ℕ) →
       (sweep_answer reference co2 (length ends) state budget).state.moves ≡ state.moves + (sweep_answer reference co2 (length ends) state budget).moves
-  moves_counted state accepted budget = rw (sweep.run-answered reference co2 ends state accepted budget) (reached.moves-counted reference co2 budget state)
+  moves_counted state accepted budget = rw (sweep.run_answered reference co2 ends state accepted budget) (reached.moves_counted reference co2 budget state)
 
   -- with a budget of kept plus windows moves from the beginning: it is over, has made kept plus windows moves, and the lane holds the end of every window
   pub run_to_its_end :

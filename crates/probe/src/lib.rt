@@ -26,7 +26,7 @@ pub extern "C" fn probe_too_dull(s: u32, n: u32, t: u64) -> bool
 
 // A window judged.
 #[repr(C)]
-#[derive(Drop)]
+#[derive(Clone, Copy)]
 pub struct WindowProbe {
     pub judged: bool, // whether the plan is in range and there can be such a window
     pub inside: bool,

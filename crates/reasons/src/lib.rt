@@ -16,7 +16,7 @@ use windows::ClassCount;
 
 // What the reasons are judged from. Bins and classes stand in the order urban, rural, motorway; the
 // bins are the parts of the trip.
-#[derive(Drop)]
+#[derive(Clone, Copy)]
 pub struct Figures {
     pub seconds: u32, // n, all seconds
     pub counts: Counts,

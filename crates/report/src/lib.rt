@@ -8,14 +8,14 @@ ghost use Rattle.report.specs.Lines.{count_lines, class_lines, reasons_line, jud
 ghost use Rattle.text.specs.Inside.{word_digits, Wrote};
 
 // A class line: the windows of a class, and those of them that are inside.
-#[derive(Drop)]
+#[derive(Clone, Copy)]
 pub struct ClassLine {
     pub windows: u64,
     pub inside: u64,
 }
 
 // The numbers of the six lines.
-#[derive(Drop)]
+#[derive(Clone, Copy)]
 pub struct Judged {
     pub seconds: u64, // all seconds
     pub missing: u64,

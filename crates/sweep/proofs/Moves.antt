@@ -112,10 +112,12 @@ module _ (reference : ℕ) (co2 : List ℕ) where
   -- one move of many comes first
   pub after_first : (budget : ℕ) (s : SweepState) → 0 < budget → after_moves reference co2 budget s ≡ after_moves reference co2 (budget - 1) (move reference co2 s)
   unfolding after_moves
+  after_first zero s h = elim h [ ]
   after_first (suc budget) s h = rw (one_less budget)
 
   pub ends_first : (budget : ℕ) (s : SweepState) (ends : List ℕ) → 0 < budget → ends_after reference co2 budget s ends ≡ ends_after reference co2 (budget - 1) (move reference co2 s) (move_ends reference co2 s ends)
   unfolding ends_after
+  ends_first zero s ends h = elim h [ ]
   ends_first (suc budget) s ends h = rw (one_less budget)
 
   -- a sweep that is over stays as it is, its ends too

@@ -33,11 +33,11 @@ module _ (reference : ℕ) (co2 : List ℕ) (room : ℕ) (s : SweepState) where
   answer_refusal budget = go (sweep_refusal reference co2 room s) (outcome reference co2 room s)
     where
       go : (r : ℕ) → Outcome reference co2 room s r → ((pick (eqb r accepted) (run_answer reference co2 s budget) (refused_answer co2 r)).refusal ≡ r) × ((pick (eqb r accepted) (run_answer reference co2 s budget) (refused_answer co2 r)).place ≡ place_of co2 r)
-      go _ (Outcome.bad-reference p) = (refl, refl)
+      go _ (Outcome.bad_reference p) = (refl, refl)
       go _ (Outcome.if_too_many p q) = (refl, refl)
       go _ (Outcome.if_too_short p q r) = (refl, refl)
-      go _ (Outcome.bad-mass p q r t) = (refl, refl)
-      go _ (Outcome.never-reached p q r t u) = (refl, refl)
+      go _ (Outcome.bad_mass p q r t) = (refl, refl)
+      go _ (Outcome.never_reached p q r t u) = (refl, refl)
       go _ (Outcome.fine ok) = (refl, refl)
 
   -- a refusal has all other results zero

@@ -10,7 +10,7 @@ ghost use Rattle.sweep.specs.Inside.{Measured, Ready, closed_rightly, needed_las
 
 // Where a sweep stands. It begins with all four zero.
 #[repr(C)]
-#[derive(Drop)]
+#[derive(Clone, Copy)]
 pub struct SweepState {
     pub taken: u64, // kept seconds taken
     pub dropped: u64, // kept seconds dropped: as many windows are closed
@@ -20,7 +20,7 @@ pub struct SweepState {
 
 // The answer of a call of the sweep.
 #[repr(C)]
-#[derive(Drop)]
+#[derive(Clone, Copy)]
 pub struct Swept {
     pub refusal: u8, // 0, or 5, 2, 6, 3, 13
     pub place: usize, // for refusal 3 the index of the first bad mass, else 0

@@ -10,7 +10,7 @@ ghost use Rattle.tally.specs.Inside.{TallyLanes, Room, with_second, bin_tallies,
 
 // Seconds taken together: one for each bin, and one for the trip.
 #[repr(C)]
-#[derive(Drop)]
+#[derive(Clone, Copy)]
 pub struct Tally {
     pub seconds: u32,
     pub distance: u32, // the sum of the speeds, 0.01 km/h: one km is 360,000
@@ -19,7 +19,7 @@ pub struct Tally {
 }
 
 // What the reasons ask of states and speeds.
-#[derive(Drop)]
+#[derive(Clone, Copy)]
 pub struct Counts {
     pub missing: u32,
     pub gap: u32, // the most missing seconds in a row

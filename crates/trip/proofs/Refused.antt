@@ -42,12 +42,12 @@ module _ (plan : Plan) (trip : Lanes) (rooms : Rooms) where
       few r = ltb-false trip_limit (seconds_in trip) r
 
       go : (x : Fault) → Outcome plan trip rooms x → Given plan trip rooms x
-      go _ (Outcome.bad-plan p) = if_plan_out_of_range p
-      go _ (Outcome.lanes-differ p q) = if_lanes_differ p (not_agree trip q)
+      go _ (Outcome.bad_plan p) = if_plan_out_of_range p
+      go _ (Outcome.if_lanes_differ p q) = if_lanes_differ p (not_agree trip q)
       go _ (Outcome.if_too_many p q r) = if_too_many p (agree trip q) (ltb-true trip_limit (seconds_in trip) r)
       go _ (Outcome.if_too_short p q r s) = if_lane_too_short p (agree trip q) (few r) ((says_short rooms (seconds_in trip)).so s)
-      go _ (Outcome.bad-second p q r s t) = if_out_of_range p (agree trip q) (few r) (places rooms (seconds_in trip) s) (first_bad_second trip) (first_bad_at trip t)
-      go _ (Outcome.if_no_second p q r s t u) = if_no_second p (agree trip q) (few r) (places rooms (seconds_in trip) s) (all_in_range trip t) (facts.no_second trip u)
+      go _ (Outcome.bad_second p q r s t) = if_out_of_range p (agree trip q) (few r) (places rooms (seconds_in trip) s) (first_bad_second trip) (first_bad_at trip t)
+      go _ (Outcome.if_no_second p q r s t u) = if_no_second p (agree trip q) (few r) (places rooms (seconds_in trip) s) (all_in_range trip t) (facts.no_second_lem trip u)
       go _ (Outcome.fine p q r s t u) = none p (agree trip q) (few r) (places rooms (seconds_in trip) s) (all_in_range trip t) (some_second trip u)
 
   -- and nothing else is
@@ -70,10 +70,10 @@ module _ (plan : Plan) (trip : Lanes) (rooms : Rooms) where
   answer_fault = go (trip_fault plan trip rooms) refl (outcome plan trip rooms)
     where
       go : (x : Fault) → trip_fault plan trip rooms ≡ x → Outcome plan trip rooms x → fault (answer_of plan trip rooms).refusal (answer_of plan trip rooms).place ≡ trip_fault plan trip rooms
-      go _ e (Outcome.bad-plan p) = rw e refl
-      go _ e (Outcome.lanes-differ p q) = rw e refl
+      go _ e (Outcome.bad_plan p) = rw e refl
+      go _ e (Outcome.if_lanes_differ p q) = rw e refl
       go _ e (Outcome.if_too_many p q r) = rw e refl
       go _ e (Outcome.if_too_short p q r s) = rw e refl
-      go _ e (Outcome.bad-second p q r s t) = rw e refl
+      go _ e (Outcome.bad_second p q r s t) = rw e refl
       go _ e (Outcome.if_no_second p q r s t u) = rw e refl
       go _ e (Outcome.fine p q r s t u) = rw e refl

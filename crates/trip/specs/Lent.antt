@@ -44,7 +44,7 @@ module _ (plan : Plan) (trip : Lanes) where
       record {
         kept_speed_values = with_front kept_speed_values lent.kept_speed_values;
         kept_co2_values = with_front kept_co2_values lent.kept_co2_values;
-        ends = found.endsOf plan trip.states trip.speeds trip.co2 lent.ends;
+        ends = found.ends_of plan trip.states trip.speeds trip.co2 lent.ends;
         ranks = ranks_of trip.states trip.speeds lent.ranks;
       }
 

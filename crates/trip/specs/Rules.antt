@@ -36,7 +36,7 @@ module _ (plan : Plan) (trip : Lanes) where
 
   -- the counts of its states and speeds
   abbrev pub counts : Counts
-  counts = tally.countsOf trip.states trip.speeds
+  counts = tally.counts_of trip.states trip.speeds
 
   -- a bin of the trip: "S, N the bin's sums of speeds and seconds", M, "T the sum of P", and Q
   abbrev pub bin_at : ℕ → Bin

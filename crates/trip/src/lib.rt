@@ -19,7 +19,7 @@ use windows::ClassCount;
 // The answer. In a refusal everything but its number and place is zero. Bins and classes stand in
 // the order urban, rural, motorway.
 #[repr(C)]
-#[derive(Drop)]
+#[derive(Clone, Copy)]
 pub struct Evaluated {
     pub refusal: u8, // 0, or 5, 1, 2, 6, 3, 4
     pub place: usize, // for refusal 3 the index of the first bad second, else 0
@@ -36,7 +36,7 @@ pub struct Evaluated {
 }
 
 // How many places the lent lanes have.
-#[derive(Drop)]
+#[derive(Clone, Copy)]
 pub struct Rooms {
     pub speeds: usize, // for kept speeds
     pub co2: usize, // for kept CO2 masses

@@ -35,7 +35,7 @@ const SPEED_OF_E2: u64 = 56_664;
 const FROM_E2_TO_E3: u64 = 35_333;
 
 // A window judged.
-#[derive(Drop)]
+#[derive(Clone, Copy)]
 pub struct Figure {
     pub class: usize, // urban, rural, motorway or unclassed
     pub inside: bool, // whether it is inside its band; false where it has no class
@@ -43,7 +43,7 @@ pub struct Figure {
 
 // How many windows a class has.
 #[repr(C)]
-#[derive(Drop)]
+#[derive(Clone, Copy)]
 pub struct ClassCount {
     pub windows: u32,
     pub inside: u32,
@@ -141,7 +141,7 @@ fn upper_of(plan: Plan, class: usize) -> u8
 
 // The curve at a mean speed: (above - under) / over. It can be negative, so the difference is not
 // taken before the sign is known.
-#[derive(Drop)]
+#[derive(Clone, Copy)]
 struct Curve {
     above: u64,
     under: u64,

@@ -12,43 +12,50 @@ use Rattle.acceleration.proofs.d_of_second.Statement.{statement}
 use Rattle.acceleration.proofs.d_of_second.Tie as tie
 
 -- where the call began, and the lanes
-abbrev began : tie.After-fault-of → tie.Start
+abbrev began : tie.After-fault_of-fault → tie.Start
 began c = c.before.before.before.before.before
 
-abbrev trip : tie.After-fault-of → Lanes
+abbrev trip : tie.After-fault_of-fault → Lanes
 trip c = let a = (began c).args in lanes_of a.states.now a.speeds.now a.altitudes.now a.co2.now a.nox.now
 
-number : (c : tie.Else1) → (fault_of (trip c.before) (began c.before).args.i).number ≡ 0
-number c = sym (ap (λ f. f.number) c.before.fault_of.ensures) ∙ c.if1.false
+number : (c : tie.Else-number-ne-ACCEPTED) → (fault_of (trip c.before) (began c.before).args.i).number ≡ 0
+number c = sym (ap (λ f. f.number) c.before.fault_of-fault.ensures) ∙ c.if-number-ne-ACCEPTED.false
 
-known : (c : tie.Else1) → Accepted (trip c.before) (began c.before).args.i
+known : (c : tie.Else-number-ne-ACCEPTED) → Accepted (trip c.before) (began c.before).args.i
 known c = accepted_facts _ _ (number c)
 
-fault_of_requires : tie.Need-fault-of-requires
+fault_of_requires : tie.Need-fault_of-fault-requires
 fault_of_requires c κs = search rules
 
-returns : tie.Need-returns
+returns : tie.Need-returns-then-number-ne-ACCEPTED
 unfolding acceleration_of
-returns c = rw (sym c.before.fault_of.ensures, ne_eqb _ _ c.if1.true) refl
+returns c = rw (sym c.before.fault_of-fault.ensures, ne_eqb _ _ c.if-number-ne-ACCEPTED.true) refl
 
-has_d_requires : tie.Need-has-d-requires
+has_d_requires : tie.Need-has_d-requires
 has_d_requires c κs = (known c).inside
 
-d_of_requires : tie.Need-d-of-requires
+d_of_requires : tie.Need-d_of-requires
 d_of_requires c κs =
     let k = known c.before.before in
     let a = (began c.before.before.before).args in
     let inside : a.i < length a.speeds.now = rw k.lengths.speeds k.inside in
     inside
 
-returns_2 : tie.Need-returns-2
+returns_2 : tie.Need-returns-then-has_d
 unfolding acceleration_of
-returns_2 c = rw (eq-eqb _ _ (number c.before.before.before), sym c.before.before.has_d.ensures, c.before.if2.true) c.d_of.ensures
+returns_2 c = rw (eq-eqb _ _ (number c.before.before.before), sym c.before.before.has_d.ensures, c.before.if-has_d.true) c.d_of.ensures
 
-returns_3 : tie.Need-returns-3
+returns_3 : tie.Need-returns
 unfolding acceleration_of
-returns_3 c = rw (eq-eqb _ _ (number c.before.before), sym c.before.has_d.ensures, c.if2.false) refl
+returns_3 c = rw (eq-eqb _ _ (number c.before.before), sym c.before.has_d.ensures, c.if-has_d.false) refl
 
 pub d_of_second_spec : {M : Type 1} → statement M
 d_of_second_spec =
-    tie.close (tie.spec fault_of_requires returns has_d_requires d_of_requires returns_2 returns_3)
+    tie.close
+    (tie.spec
+    fault_of_requires
+    returns
+    has_d_requires
+    d_of_requires
+    returns_2
+    returns_3)

@@ -18,78 +18,78 @@ test c =
     let a = c.args in
     has_d a.states.now a.i && ltb (speed_before a.speeds.now a.i + 72) (speed_after a.speeds.now a.i)
 
-passed : (c : tie.Then2) → test c.before.before.before.before.before.before.before.before.before ≡ true
-passed c = rw (sym c.before.has_d.ensures, sym c.before.before.speed_after.ensures, sym c.before.before.before.speed_before.ensures) c.if2.true
+passed : (c : tie.Then-has_d-before) → test c.before.before.before.before.before.before.before.before.before ≡ true
+passed c = rw (sym c.before.has_d.ensures, sym c.before.before.speed_after-after.ensures, sym c.before.before.before.speed_before-before.ensures) c.if-has_d-before.true
 
-not_passed : (c : tie.Else2) → test c.before.before.before.before.before.before.before.before.before ≡ false
-not_passed c = rw (sym c.before.has_d.ensures, sym c.before.before.speed_after.ensures, sym c.before.before.before.speed_before.ensures) c.if2.false
+not_passed : (c : tie.Else-has_d-before) → test c.before.before.before.before.before.before.before.before.before ≡ false
+not_passed c = rw (sym c.before.has_d.ensures, sym c.before.before.speed_after-after.ensures, sym c.before.before.before.speed_before-before.ensures) c.if-has_d-before.false
 
 -- D is above 72 there
-rise : (c : tie.Then2) → c.before.before.before.speed_before.result + 72 < c.before.before.speed_after.result
+rise : (c : tie.Then-has_d-before) → c.before.before.before.speed_before-before.result + 72 < c.before.before.speed_after-after.result
 rise c =
     let a = c.before.before.before.before.before.before.before.before.before.args in
     let h = rises a.states.now a.speeds.now a.i (passed c) in
-    omega (arith, c.before.before.speed_after.ensures, c.before.before.before.speed_before.ensures)
+    omega (arith, c.before.before.speed_after-after.ensures, c.before.before.before.speed_before-before.ensures)
 
 -- the product is one of two u16
-small : (c : tie.Then2) → get_or c.before.before.before.before.before.before.before.before.before.args.speeds.now c.before.before.before.before.before.before.before.before.before.args.i 0 * (c.before.before.speed_after.result - c.before.before.before.speed_before.result) ≤ 65_535 * 65_535
+small : (c : tie.Then-has_d-before) → get_or c.before.before.before.before.before.before.before.before.before.args.speeds.now c.before.before.before.before.before.before.before.before.before.args.i 0 * (c.before.before.speed_after-after.result - c.before.before.before.speed_before-before.result) ≤ 65_535 * 65_535
 small c =
     product_at_most {m = 65_535} {n = 65_535} (65_535 * 65_535)
-    (omega (arith, c.before.before.before.before.before.before.before.shared-slice-known2.given c.before.before.before.before.before.before.before.before.before.args.i))
+    (omega (arith, c.before.before.before.before.before.before.before.shared_slice_known-2-1.given c.before.before.before.before.before.before.before.before.before.args.i))
     (omega arith)
     tt
 
-mul_speed : tie.Need-overflow-mul-speed
+mul_speed : tie.Need-offset_bounds-speeds-i
 mul_speed c = search rules
 
-shared_slice_read_speed : tie.Need-shared-slice-read-speed
+shared_slice_read_speed : tie.Need-bounds-speeds-i
 shared_slice_read_speed c = search rules
 
-bin_of_requires : tie.Need-bin-of-requires
+bin_of_requires : tie.Need-bin_of-requires
 bin_of_requires c κs = search rules
 
-returns : tie.Need-returns
+returns : tie.Need-returns-then-bin_of-bin
 returns c =
     let a = c.before.before.before.before.before.args in
-    sym (code_in_other_bin a.states.now a.speeds.now a.i a.bin (λ e. c.if1.true (c.before.bin_of.ensures ∙ e)))
+    sym (code_in_other_bin a.states.now a.speeds.now a.i a.bin (λ e. c.if-bin_of-bin.true (c.before.bin_of.ensures ∙ e)))
 
-speed_before_requires : tie.Need-speed-before-requires
+speed_before_requires : tie.Need-speed_before-before-requires
 speed_before_requires c κs = search rules
 
-cast_before : tie.Need-overflow-cast-before
+cast_before : tie.Need-overflow_cast-before
 cast_before c = search rules
 
-speed_after_requires : tie.Need-speed-after-requires
+speed_after_requires : tie.Need-speed_after-after-requires
 speed_after_requires c κs = search rules
 
-cast_after : tie.Need-overflow-cast-after
+cast_after : tie.Need-overflow_cast-after
 cast_after c = search rules
 
-has_d_requires : tie.Need-has-d-requires
+has_d_requires : tie.Need-has_d-requires
 has_d_requires c κs = search rules
 
-add_if2 : tie.Need-overflow-add-if2
+add_if2 : tie.Need-overflow_add-before
 add_if2 c = search rules
 
-cast_result : tie.Need-overflow-cast-result
-cast_result c = omega (arith, c.before.before.before.before.before.before.before.shared-slice-known2.given c.before.before.before.before.before.before.before.before.before.args.i)
+cast_result : tie.Need-overflow_cast-result
+cast_result c = omega (arith, c.before.before.before.before.before.before.before.shared_slice_known-2-1.given c.before.before.before.before.before.before.before.before.before.args.i)
 
-sub_result : tie.Need-overflow-sub-result
+sub_result : tie.Need-overflow_sub-result
 sub_result c = omega (arith, rise c)
 
-mul_result : tie.Need-overflow-mul-result
+mul_result : tie.Need-overflow_mul-result
 mul_result c = omega (arith, small c)
 
-add_result : tie.Need-overflow-add-result
+add_result : tie.Need-overflow_add-result
 add_result c = omega (arith, small c)
 
-returns_2 : tie.Need-returns-2
+returns_2 : tie.Need-returns-then-has_d-before
 returns_2 c =
     let a = c.before.before.before.before.before.before.before.before.before.args in
-    let same = sym c.before.before.before.before.before.bin_of.ensures ∙ c.before.before.before.before.if1.false in
-    rw (c.before.before.speed_after.ensures, c.before.before.before.speed_before.ensures) (sym (code_counted a.states.now a.speeds.now a.i a.bin same (passed c)))
+    let same = sym c.before.before.before.before.before.bin_of.ensures ∙ c.before.before.before.before.if-bin_of-bin.false in
+    rw (c.before.before.speed_after-after.ensures, c.before.before.before.speed_before-before.ensures) (sym (code_counted a.states.now a.speeds.now a.i a.bin same (passed c)))
 
-returns_3 : tie.Need-returns-3
+returns_3 : tie.Need-returns
 returns_3 c =
     let a = c.before.before.before.before.before.before.before.before.before.args in
     sym (code_not_counted a.states.now a.speeds.now a.i a.bin (not_passed c))

@@ -10,36 +10,36 @@ use Rattle.climb.proofs.ends_apart.Statement.{statement}
 use Rattle.climb.proofs.ends_apart.Tie as tie
 
 -- a second has an altitude
-some : (c : tie.Else1) → first_with_altitude c.before.before.before.args.states.now ≡ length c.before.before.before.args.states.now → ⊥
-some c e = c.if1.false (c.before.first_with_altitude.ensures ∙ e)
+some : (c : tie.Else-first-states) → first_with_altitude c.before.before.before.args.states.now ≡ length c.before.before.before.args.states.now → ⊥
+some c e = c.if-first-states.false (c.before.first_with_altitude-first.ensures ∙ e)
 
-returns_2 : tie.Need-returns-2
+returns_2 : tie.Need-returns
 returns_2 c =
     let start = c.before.before.before.before.before.before.before in
-    rw (c.apart.ensures, c.before.altitude_code2.ensures, c.before.before.altitude_code.ensures, c.before.before.before.last_with_altitude.ensures, c.before.before.before.before.before.first_with_altitude.ensures, difference_of start.args.states.now start.args.altitudes.now start.requires (some c.before.before.before.before)) refl
+    rw (c.apart.ensures, c.before.altitude_code-to.ensures, c.before.before.altitude_code-from.ensures, c.before.before.before.last_with_altitude-last.ensures, c.before.before.before.before.before.first_with_altitude-first.ensures, difference_of start.args.states.now start.args.altitudes.now start.requires (some c.before.before.before.before)) refl
 
-returns : tie.Need-returns
+returns : tie.Need-returns-then-first-states
 returns c =
     let a = c.before.before.before.args in
-    rw (no_difference a.states.now a.altitudes.now (sym c.before.first_with_altitude.ensures ∙ c.if1.true)) refl
+    rw (no_difference a.states.now a.altitudes.now (sym c.before.first_with_altitude-first.ensures ∙ c.if-first-states.true)) refl
 
-first_with_altitude_requires : tie.Need-first-with-altitude-requires
+first_with_altitude_requires : tie.Need-first_with_altitude-first-requires
 first_with_altitude_requires c κs = search rules
 
-last_with_altitude_requires : tie.Need-last-with-altitude-requires
+last_with_altitude_requires : tie.Need-last_with_altitude-last-requires
 last_with_altitude_requires c κs = search rules
 
-altitude_code_requires : tie.Need-altitude-code-requires
+altitude_code_requires : tie.Need-altitude_code-from-requires
 altitude_code_requires c κs =
     let start = c.before.before.before.before in
     let first = first_recorded start.args.states.now (some c.before) in
-    omega (arith, first.within, c.before.before.first_with_altitude.ensures, start.requires.altitudes_agree)
+    omega (arith, first.within, c.before.before.first_with_altitude-first.ensures, start.requires.altitudes_agree)
 
-altitude_code_requires_2 : tie.Need-altitude-code-requires-2
+altitude_code_requires_2 : tie.Need-altitude_code-to-requires
 altitude_code_requires_2 c κs =
     let start = c.before.before.before.before.before in
     let last = last_recorded start.args.states.now (some c.before.before) in
-    omega (arith, last.within, c.before.last_with_altitude.ensures, start.requires.altitudes_agree)
+    omega (arith, last.within, c.before.last_with_altitude-last.ensures, start.requires.altitudes_agree)
 
 apart_requires : tie.Need-apart-requires
 apart_requires c κs = search rules

@@ -25,15 +25,15 @@ words c =
       motorway = record { windows = omega arith; inside = omega arith };
     }
 
-returns : tie.Need-returns
+returns : tie.Need-returns-then-room-ge-LONGEST_TEXT
 returns c =
     let room : length (judged_text c.before.args.trip) ≤ c.before.args.room = omega (arith, judged-longest c.before.args.trip (words c.before)) in
     sym (le-leb _ _ room)
 
-judged-length_requires : tie.Need-judged-length-requires
+judged-length_requires : tie.Need-judged_length-requires
 judged-length_requires c κs = search rules
 
-returns_2 : tie.Need-returns-2
+returns_2 : tie.Need-returns
 returns_2 c = ap (λ (n : ℕ). leb n c.before.before.args.room) c.judged_length.ensures
 
 pub judged_fits_spec : {M : Type 1} → statement M

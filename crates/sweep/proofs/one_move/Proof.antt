@@ -12,79 +12,79 @@ use Rattle.sweep.proofs.one_move.Statement.{statement}
 use Rattle.sweep.proofs.one_move.Tie as tie
 
 -- a window that is closed has reached the reference, so the second that is dropped is there
-full : (c : tie.Then1) → c.before.before.args.reference ≤ c.before.before.args.state.mass
+full : (c : tie.Then-reference-mass) → c.before.before.args.reference ≤ c.before.before.args.state.mass
 full c = omega arith
 
-first_there : (c : tie.Then1) → c.before.before.args.state.dropped < length c.before.before.args.co2.now
+first_there : (c : tie.Then-reference-mass) → c.before.before.args.state.dropped < length c.before.before.args.co2.now
 first_there c =
     let ready = c.before.before.requires in
     omega (arith, open_window _ _ ready.positive ready.stands (full c), ready.stands.within)
 
 -- otherwise it has not
-light : (c : tie.Else1) → c.before.before.args.state.mass < c.before.before.args.reference
+light : (c : tie.Else-reference-mass) → c.before.before.args.state.mass < c.before.before.args.reference
 light c = omega arith
 
-add_moves : tie.Need-overflow-add-moves
+add_moves : tie.Need-overflow_add-moves
 add_moves c = omega (arith, c.before.requires.stands, c.before.requires.masses)
 
-cast_ends : tie.Need-overflow-cast-ends
+cast_ends : tie.Need-overflow_cast-ends
 cast_ends c = omega (arith, c.before.before.requires.stands.within, c.before.before.requires.masses.few)
 
-mul_ends : tie.Need-overflow-mul-ends
+mul_ends : tie.Need-offset_bounds-ends-first
 mul_ends c = search rules
 
-slice_write_ends : tie.Need-slice-write-ends
+slice_write_ends : tie.Need-bounds-ends-first
 slice_write_ends c = omega (arith, first_there c, c.before.before.requires.places)
 
-add_t16 : tie.Need-overflow-add-t16
+add_t16 : tie.Need-overflow_add-result
 add_t16 c = search rules
 
-mul_t14 : tie.Need-overflow-mul-t14
+mul_t14 : tie.Need-offset_bounds-co2-first
 mul_t14 c = search rules
 
-shared_slice_read_t18 : tie.Need-shared-slice-read-t18
+shared_slice_read_t18 : tie.Need-bounds-co2-first
 shared_slice_read_t18 c = omega (arith, first_there c.before)
 
-cast_t19 : tie.Need-overflow-cast-t19
-cast_t19 c = omega (arith, c.shared-slice-known.given c.before.before.before.args.state.dropped)
+cast_t19 : tie.Need-overflow_cast-result
+cast_t19 c = omega (arith, c.shared_slice_known-1.given c.before.before.before.args.state.dropped)
 
-sub_t20 : tie.Need-overflow-sub-t20
+sub_t20 : tie.Need-overflow_sub-result
 sub_t20 c =
     let ready = c.before.before.before.requires in
     first_held _ _ ready.positive ready.stands (full c.before)
 
-same_length : tie.Need-same-length
+same_length : tie.Need-shape_of-ends-then-reference-mass
 same_length c = search rules
 
-returns : tie.Need-returns
+returns : tie.Need-returns-then-reference-mass
 unfolding move move_ends
 returns c = simp (le-leb _ _ (full c.before)) (refl, refl)
 
-add_t22 : tie.Need-overflow-add-t22
+add_t22 : tie.Need-overflow_add-result-then-taken-co2
 add_t22 c = search rules
 
-mul_t23 : tie.Need-overflow-mul-t23
+mul_t23 : tie.Need-offset_bounds-co2-next
 mul_t23 c = search rules
 
-shared_slice_read_t25 : tie.Need-shared-slice-read-t25
+shared_slice_read_t25 : tie.Need-bounds-co2-next
 shared_slice_read_t25 c = search rules
 
-cast_t26 : tie.Need-overflow-cast-t26
-cast_t26 c = omega (arith, c.shared-slice-known2.given c.before.before.before.before.args.state.taken)
+cast_t26 : tie.Need-overflow_cast-result-then-taken-co2
+cast_t26 c = omega (arith, c.shared_slice_known-then-taken-co2-1.given c.before.before.before.before.args.state.taken)
 
-add_t27 : tie.Need-overflow-add-t27
+add_t27 : tie.Need-overflow_add-result-then-taken-co2-2
 add_t27 c =
     let ready = c.before.before.before.before.requires in
-    omega (arith, c.shared-slice-known2.given c.before.before.before.before.args.state.taken, mass_fits _ _ ready.masses ready.stands)
+    omega (arith, c.shared_slice_known-then-taken-co2-1.given c.before.before.before.before.args.state.taken, mass_fits _ _ ready.masses ready.stands)
 
-returns_2 : tie.Need-returns-2
+returns_2 : tie.Need-returns-then-taken-co2
 unfolding move move_ends
 returns_2 c =
     let a = c.before.before.before.before.args in
     let more : a.state.taken < length a.co2.now = omega arith in
     simp (lt-leb _ _ (light c.before.before), lt-ltb _ _ more) (refl, refl)
 
-returns_3 : tie.Need-returns-3
+returns_3 : tie.Need-returns
 unfolding move move_ends
 returns_3 c =
     let a = c.before.before.before.args in

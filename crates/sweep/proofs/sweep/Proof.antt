@@ -14,8 +14,8 @@ use Rattle.sweep.proofs.sweep.Statement.{statement}
 use Rattle.sweep.proofs.sweep.Tie as tie
 
 -- past the first test the call is accepted
-accepts : (c : tie.Else1) → sweep_refusal c.before.before.before.before.args.reference c.before.before.before.before.args.co2.now (length c.before.before.before.before.args.ends.now) c.before.before.before.before.args.state ≡ 0
-accepts c = sym c.before.refusal_of.ensures ∙ c.if1.false
+accepts : (c : tie.Else-refusal-ne-ACCEPTED) → sweep_refusal c.before.before.before.before.args.reference c.before.before.before.before.args.co2.now (length c.before.before.before.before.args.ends.now) c.before.before.before.before.args.state ≡ 0
+accepts c = sym c.before.refusal_of-refusal.ensures ∙ c.if-refusal-ne-ACCEPTED.false
 
 -- the answer of a run, from the state that it ends in
 ran : (reference : ℕ) (co2 : List ℕ) (s : SweepState) (budget : ℕ) {now : SweepState} {over : Bool} → now ≡ after_moves reference co2 budget s → over ≡ is_over reference co2 now → record { refusal = 0; place = 0; state = now; moves = now.moves - s.moves; over = over } ≡ run_answer reference co2 s budget
@@ -23,42 +23,42 @@ ran reference co2 s budget {now} {over} e o =
     let made : now.moves - s.moves ≡ moves_made reference co2 budget s = omega (arith, ap (λ (v : SweepState). v.moves) e, moves_counted reference co2 budget s) in
     λ i. record { refusal = 0; place = 0; state = e i; moves = made i; over = (o ∙ ap (λ (v : SweepState). is_over reference co2 v) e) i }
 
-refusal_of_requires : tie.Need-refusal-of-requires
+refusal_of_requires : tie.Need-refusal_of-refusal-requires
 refusal_of_requires c κs = search rules
 
 refused_requires : tie.Need-refused-requires
 refused_requires c κs = search rules
 
-returns : tie.Need-returns
+returns : tie.Need-returns-then-refusal-ne-ACCEPTED
 returns c =
     let a = c.before.before.before.before.before.args in
-    let refusal = c.before.before.refusal_of.ensures in
-    let no_zero : sweep_refusal a.reference a.co2.now (length a.ends.now) a.state ≡ 0 → ⊥ = λ e. c.before.if1.true (refusal ∙ e) in (
+    let refusal = c.before.before.refusal_of-refusal.ensures in
+    let no_zero : sweep_refusal a.reference a.co2.now (length a.ends.now) a.state ≡ 0 → ⊥ = λ e. c.before.if-refusal-ne-ACCEPTED.true (refusal ∙ e) in (
       c.refused.ensures ∙ ap (refused_answer a.co2.now) refusal ∙ sym (refused_answer_lem _ _ _ a.state a.budget no_zero),
       sym (refused_ends _ _ a.ends.now a.state a.budget no_zero),
     )
 
-run_requires : tie.Need-run-requires
+run_requires : tie.Need-run-now-requires
 run_requires c κs =
     let a = c.before.before.before.before.before.args in
     ready _ _ _ a.state (passed _ _ _ a.state (accepts c.before))
 
-sub_t12 : tie.Need-overflow-sub-t12
+sub_t12 : tie.Need-overflow_sub-result
 sub_t12 c =
     let a = c.before.before.before.before.before.before.before.before.before.before.args in
     let counted = moves_counted a.reference a.co2.now a.budget a.state in
-    omega (arith, ap (λ (v : SweepState). v.moves) c.before.before.before.before.run.ensures.0)
+    omega (arith, ap (λ (v : SweepState). v.moves) c.before.before.before.before.run-now.ensures.0)
 
-is_over_requires : tie.Need-is-over-requires
+is_over_requires : tie.Need-is_over-requires
 is_over_requires c κs = search rules
 
-same_length : tie.Need-same-length
-same_length c = c.before.before.before.before.before.run.auto.1.1.0
+same_length : tie.Need-shape_of-ends
+same_length c = c.before.before.before.before.before.run-now.auto.1.1.0
 
-returns_2 : tie.Need-returns-2
+returns_2 : tie.Need-returns
 returns_2 c =
     let a = c.before.before.before.before.before.before.before.before.before.before.before.args in
-    let call = c.before.before.before.before.before.run in
+    let call = c.before.before.before.before.before.run-now in
     let fine = accepts c.before.before.before.before.before.before.before in (
       ran a.reference a.co2.now a.state a.budget call.ensures.0 c.is_over.ensures ∙ sym (accepted_answer _ _ _ a.state a.budget fine),
       call.ensures.1 ∙ sym (accepted_ends _ _ a.ends.now a.state a.budget fine),

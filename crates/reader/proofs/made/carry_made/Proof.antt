@@ -19,7 +19,7 @@ all_zero_requires c κs = search rules
 
 returns : tie.Need-returns
 unfolding carry_made
-returns c = rw (c.all_zero.ensures, c.before.before.type_size.ensures) refl
+returns c = rw (c.all_zero.ensures, c.before.before.size_of.ensures) refl
 
 pub carry_made_spec : {M : Type 1} → statement M
 carry_made_spec =

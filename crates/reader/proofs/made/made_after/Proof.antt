@@ -25,7 +25,7 @@ returns_2 : tie.Need-returns-2
 unfolding made_after
 returns_2 c =
     let r = c.before.before.before.before.args.reader in
-    rw (middle_true (plan_in_range r.plan) (leb r.seconds trip_limit) (can_end r.seconds (item_length plan_kind) r.at) (le-leb _ _ c.before.before.if1.false), c.before.plan_in_range.ensures, c.Offset_made.ensures) refl
+    rw (middle_true (plan_in_range r.plan) (leb r.seconds trip_limit) (can_end r.seconds (item_length plan_kind) r.at) (le-leb _ _ c.before.before.if1.false), c.before.plan_in_range.ensures, c.offset_made.ensures) refl
 
 pub made_after_spec : {M : Type 1} → statement M
 made_after_spec =

@@ -1,0 +1,14 @@
+-- `acceleration::speed_before` meets its contract by the laws of the second before. Assumes nothing.
+use borrow.Author.Rules.{rules}
+use mathlib.Core.Path.{sym}
+use native.Mathlib.Omega.{arith}
+use Rattle.acceleration.proofs.Neighbours as law
+use Rattle.acceleration.proofs.speed_before.Goals as goal
+
+pub returns-then-i-eq0 : goal.returns-then-i-eq0
+returns-then-i-eq0 c =
+    sym (law.speed_before_first c.args.speeds.now c.args.i (omega arith))
+
+pub returns : goal.returns
+returns c =
+    sym (law.speed_before_lem c.args.speeds.now c.args.i (omega arith))

@@ -1,0 +1,25 @@
+-- `mass::wet_ppm` meets its contract: each case is the definition's, and its 10,000 is the definition's f64. Assumes nothing.
+use lib.Ieee.{of_bits, of_int}
+use borrow.Author.Rules.{rules}
+use Rattle.mass.specs.Mass.{wet_ppm}
+use Rattle.mass.proofs.wet_ppm.Goals as goal
+
+pub returns-in-WetPpm : goal.returns-in-WetPpm
+unfolding wet_ppm
+returns-in-WetPpm c =
+    rw c.reading-1.given.1
+
+pub returns-in-DryPpm : goal.returns-in-DryPpm
+unfolding wet_ppm
+returns-in-DryPpm c =
+    rw c.reading-in-DryPpm-1.given.1
+
+pub returns-in-WetPercent : goal.returns-in-WetPercent
+unfolding wet_ppm of_bits of_int
+returns-in-WetPercent c =
+    rw c.reading-in-WetPercent-1.given.1
+
+pub returns-in-DryPercent : goal.returns-in-DryPercent
+unfolding wet_ppm of_bits of_int
+returns-in-DryPercent c =
+    rw c.reading-in-DryPercent-1.given.1

@@ -1,0 +1,10 @@
+-- `mass::zero_to` meets its contract: its two comparisons are the definition's, and its 0.0 is the f64 zero. Assumes nothing.
+use mathlib.Core.Path.{refl}
+use lib.Ieee.{of_bits, of_int}
+use Rattle.mass.specs.Mass.{zero_to}
+use Rattle.mass.proofs.zero_to.Goals as goal
+
+pub returns : goal.returns
+unfolding zero_to of_bits of_int
+returns c =
+    refl

@@ -1,0 +1,19 @@
+-- `sweep::closed_rightly` meets its contract: nothing was dropped, or the test is the definition's. Assumes nothing.
+use Prim.Native.Nat.{◌-◌}
+use mathlib.Core.Path.{refl}
+use native.Mathlib.Omega.{arith}
+use borrow.Author.Tests.{eq-eqb, ne_eqb}
+use borrow.Author.Rules.{rules}
+use Rattle.sweep.proofs.closed_rightly.Goals as goal
+
+pub returns-then-dropped-eq0 : goal.returns-then-dropped-eq0
+returns-then-dropped-eq0 c =
+    rw (eq-eqb _ _ c.if-dropped-eq0.true)
+
+pub overflow_add-result : goal.overflow_add-result
+overflow_add-result c =
+    omega (arith, c.shared_slice_known-1.given (c.args.dropped - 1))
+
+pub returns : goal.returns
+returns c =
+    rw (ne_eqb _ _ c.if-dropped-eq0.false) refl

@@ -1,0 +1,53 @@
+-- `sweep::is_reached` meets its contract: each early test finds a state astray, and the last two decide (`proofs/Local.antt`). Assumes nothing.
+use mathlib.Core.Path.{sym, ◌∙◌}
+use native.Mathlib.Omega.{arith}
+use borrow.Author.Rules.{rules}
+use Rattle.sweep.proofs.Prefix.{first_within, part_sum}
+use Rattle.sweep.proofs.Local.{two_tests, too_far, out_of_order, miscounted, misweighed}
+use Rattle.sweep.proofs.is_reached.Goals as goal
+
+pub returns-then-co2-taken : goal.returns-then-co2-taken
+returns-then-co2-taken c =
+    sym (too_far _ _ c.requires.0 _ c.if-co2-taken.true)
+
+pub returns-then-taken-dropped : goal.returns-then-taken-dropped
+returns-then-taken-dropped c =
+    sym (out_of_order _ _ c.requires.0 _ c.if-taken-dropped.true)
+
+pub returns-then-state-taken : goal.returns-then-state-taken
+returns-then-state-taken c =
+    sym (miscounted _ _ c.requires.0 _ c.if-state-taken.true)
+
+pub total-requires : goal.total-requires
+total-requires c =
+    let start = c in
+    let state = start.args.state in
+    omega
+    (arith, part_sum state.dropped state.taken start.args.co2.now c.if-taken-dropped.false, first_within state.taken start.args.co2.now, start.requires.1.light)
+
+pub returns-then-mass-total : goal.returns-then-mass-total
+returns-then-mass-total c =
+    let start = c in
+    sym (misweighed _ _ start.requires.0 start.args.state c.if-taken-dropped.false (λ e. c.if-mass-total.true (e ∙ sym c.total.ensures)))
+
+pub closed_rightly-requires : goal.closed_rightly-requires
+closed_rightly-requires c =
+    let start = c in
+    omega (arith, c.if-mass-total.false, c.total.type-inv, c.if-taken-dropped.false, c.if-co2-taken.false)
+
+pub needed_last-requires : goal.needed_last-requires
+needed_last-requires c =
+    c.if-co2-taken.false
+
+pub returns : goal.returns
+returns c =
+    let start = c in
+    let state = start.args.state in
+    rw (c.closed_rightly.ensures, c.needed_last.ensures)
+    (two_tests _ _ start.requires.0 state
+    (record {
+      counted = c.if-state-taken.false;
+      order = c.if-taken-dropped.false;
+      within = c.if-co2-taken.false;
+      weighed = c.if-mass-total.false ∙ c.total.ensures;
+    }))
