@@ -44,8 +44,18 @@ slice_bounds-judge_window-start c =
     let here : Turn c.args.plan c.args.speeds.now c.args.co2.now c.args.ends.now c.args.windows c.requires c.loop-first.first c.loop-first-test.true = turn _ _ _ _ _ c.requires c.loop-first.first c.loop-first-test.true in
     omega (arith, here)
 
+pub slice_bounds-judge_window-start-in-loop-first : goal.slice_bounds-judge_window-start-in-loop-first
+slice_bounds-judge_window-start-in-loop-first c =
+    let here : Turn c.args.plan c.args.speeds.now c.args.co2.now c.args.ends.now c.args.windows c.requires c.loop-first.first c.loop-first-test.true = turn _ _ _ _ _ c.requires c.loop-first.first c.loop-first-test.true in
+    omega (arith, here)
+
 pub slice_bounds-judge_window-end : goal.slice_bounds-judge_window-end
 slice_bounds-judge_window-end c =
+    let here : Turn c.args.plan c.args.speeds.now c.args.co2.now c.args.ends.now c.args.windows c.requires c.loop-first.first c.loop-first-test.true = turn _ _ _ _ _ c.requires c.loop-first.first c.loop-first-test.true in
+    omega (arith, here)
+
+pub slice_bounds-judge_window-end-in-loop-first : goal.slice_bounds-judge_window-end-in-loop-first
+slice_bounds-judge_window-end-in-loop-first c =
     let here : Turn c.args.plan c.args.speeds.now c.args.co2.now c.args.ends.now c.args.windows c.requires c.loop-first.first c.loop-first-test.true = turn _ _ _ _ _ c.requires c.loop-first.first c.loop-first-test.true in
     omega (arith, here)
 

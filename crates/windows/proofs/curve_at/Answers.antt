@@ -18,7 +18,7 @@ returns-then-s-n c =
     let s = c.args.s in
     let n = c.args.n in
     let slow : 10 * s ≤ speed_of_e2 * n = omega arith in
-    rw (mean_at_most s n speed_of_e2, le-leb _ _ slow) c.line_at_lem.ensures
+    rw (mean_at_most s n speed_of_e2, le-leb _ _ slow) c.line_at.ensures
 
 pub line_at-requires-2 : goal.line_at-requires-2
 line_at-requires-2 c =
