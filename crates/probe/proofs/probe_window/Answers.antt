@@ -12,12 +12,12 @@ use Rattle.probe.proofs.probe_window.Goals as goal
 pub returns-then-not-plan_in_range : goal.returns-then-not-plan_in_range
 unfolding window_probe
 returns-then-not-plan_in_range c =
-    rw (← c.plan_in_range.ensures, not-true c.plan_in_range.result c.if-not-plan_in_range.true-raw)
+    rw (← c.plan_in_range.ensures, c.if-not-plan_in_range.true)
 
 pub returns-then-not-window_in_range : goal.returns-then-not-window_in_range
 unfolding window_probe
 returns-then-not-window_in_range c =
-    rw (← c.plan_in_range.ensures, not-false c.plan_in_range.result c.if-not-plan_in_range.false-raw, ← c.window_in_range.ensures, not-true c.window_in_range.result c.if-not-window_in_range.true-raw)
+    rw (← c.plan_in_range.ensures, c.if-not-plan_in_range.false, ← c.window_in_range.ensures, c.if-not-window_in_range.true)
 
 pub judge-figure-requires : goal.judge-figure-requires
 judge-figure-requires c =
@@ -25,12 +25,12 @@ judge-figure-requires c =
     let s = start.args.s in
     let m = start.args.m in
     let n = start.args.n in
-    let fine = sym c.window_in_range.ensures ∙ not-false c.window_in_range.result c.if-not-window_in_range.false-raw in
+    let fine = sym c.window_in_range.ensures ∙ c.if-not-window_in_range.false in
     let first = (and-eq-true_iff (leb 1 n && leb n window_most && leb 1 s) (leb 1 m)).0 fine in
     let second = (and-eq-true_iff (leb 1 n && leb n window_most) (leb 1 s)).0 first.0 in
     let third = (and-eq-true_iff (leb 1 n) (leb n window_most)).0 second.0 in
     record {
-      plan_is_in_range = sym c.plan_in_range.ensures ∙ not-false c.plan_in_range.result c.if-not-plan_in_range.false-raw;
+      plan_is_in_range = sym c.plan_in_range.ensures ∙ c.if-not-plan_in_range.false;
       lasts = leb-true 1 n third.0;
       few = leb-true n window_most third.1;
       moves = leb-true 1 s second.1;
@@ -41,4 +41,4 @@ judge-figure-requires c =
 pub returns : goal.returns
 unfolding window_probe
 returns c =
-    rw (← c.plan_in_range.ensures, not-false c.plan_in_range.result c.if-not-plan_in_range.false-raw, ← c.window_in_range.ensures, not-false c.window_in_range.result c.if-not-window_in_range.false-raw, c.judge-figure.ensures)
+    rw (← c.plan_in_range.ensures, c.if-not-plan_in_range.false, ← c.window_in_range.ensures, c.if-not-window_in_range.false, c.judge-figure.ensures)

@@ -7,12 +7,12 @@ use Rattle.reader.proofs.made.was_made.Goals as goal
 
 pub returns-then-not-standing_made : goal.returns-then-not-standing_made
 returns-then-not-standing_made c =
-    sym (standing_bad c.args.reader (sym c.standing_made.ensures ∙ not-true _ c.if-not-standing_made.true-raw))
+    sym (standing_bad c.args.reader (sym c.standing_made.ensures ∙ c.if-not-standing_made.true))
 
 pub returns-then-reader-eq-ACCEPTED : goal.returns-then-reader-eq-ACCEPTED
 returns-then-reader-eq-ACCEPTED c =
-    c.carry_made.ensures ∙ sym (made_open c.args.reader (sym c.standing_made.ensures ∙ not-false _ c.if-not-standing_made.false-raw) c.if-reader-eq-ACCEPTED.true)
+    c.carry_made.ensures ∙ sym (made_open c.args.reader (sym c.standing_made.ensures ∙ c.if-not-standing_made.false) c.if-reader-eq-ACCEPTED.true)
 
 pub returns : goal.returns
 returns c =
-    c.settled_made.ensures ∙ sym (made_settled c.args.reader (sym c.standing_made.ensures ∙ not-false _ c.if-not-standing_made.false-raw) c.if-reader-eq-ACCEPTED.false)
+    c.settled_made.ensures ∙ sym (made_settled c.args.reader (sym c.standing_made.ensures ∙ c.if-not-standing_made.false) c.if-reader-eq-ACCEPTED.false)
