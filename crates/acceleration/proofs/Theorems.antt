@@ -62,17 +62,17 @@ module _ (trip : Lanes) (i : ℕ) where
   unfolding acceleration_of fault_in numbered
   answer_fault = go (fault_of trip i) outcome
     where
-      accepted-fault : (t : Bool) (z : ℤ) → fault_in (pick t (numbered z) None) ≡ fault 0 0
-      accepted-fault true (pos d) = refl
-      accepted-fault true (negsuc d) = refl
-      accepted-fault false z = refl
+      accepted_fault : (t : Bool) (z : ℤ) → fault_in (pick t (numbered z) None) ≡ fault 0 0
+      accepted_fault true (pos d) = refl
+      accepted_fault true (negsuc d) = refl
+      accepted_fault false z = refl
 
       go : (f : Fault) → Outcome trip i f → fault_in (pick (eqb f.number 0) (pick (has_d trip.states i) (numbered (d_of trip.speeds i)) None) (Refused f)) ≡ f
       go _ (if_lanes_differ differ) = refl
       go _ (if_too_many same h) = refl
-      go _ (if_out_of_range same few bad at) = refl
+      go _ (if_out_of_range same few place at) = refl
       go _ (if_no_second same few good none) = refl
-      go _ (fine same few good some inside) = accepted-fault (has_d trip.states i) (d_of trip.speeds i)
+      go _ (fine same few good some inside) = accepted_fault (has_d trip.states i) (d_of trip.speeds i)
 
   -- accepted: D where the second has one, and that it has none where it has not
   pub accepted_has : (fault_of trip i).number ≡ 0 → has_d trip.states i ≡ true → acceleration_of trip i ≡ numbered (d_of trip.speeds i)

@@ -148,7 +148,7 @@ fn speed_after(speeds: &[u16], i: usize) -> u16
 // Writes the products of a bin to the front of a lane, in the order of the seconds.
 pub fn write_products(states: &[u8], speeds: &[u16], bin: usize, lane: &mut [u32]) -> Products
     requires speed_lanes { SpeedLanes states.now speeds.now }
-    requires speeds_in_bounds { length (products_of bin states.now speeds.now) ≤ length lane.old }
+    requires room { length (products_of bin states.now speeds.now) ≤ length lane.old }
     ensures value { result ≡ figures_of (products_of bin states.now speeds.now) }
     ensures lane_after { lane.new ≡ with_front (products_of bin states.now speeds.now) lane.old }
 {

@@ -45,7 +45,7 @@ fn dynamics_from(
     from: usize,
 ) -> Figures
     requires speed_lanes { SpeedLanes states.now speeds.now }
-    requires speeds_in_bounds { from + length (products_of bin states.now speeds.now) ≤ length lane.old }
+    requires room { from + length (products_of bin states.now speeds.now) ≤ length lane.old }
     ensures { let products = products_of bin states.now speeds.now in
         (result ≡ dynamics_of products)
         × (lane.new ≡ placed from (sort products) lane.old) }
@@ -56,7 +56,7 @@ fn dynamics_from(
 // The dynamics of a bin, whose products are ranked at the front of the lane.
 fn bin_dynamics(states: &[u8], speeds: &[u16], bin: usize, lane: &mut [u32]) -> Figures
     requires speed_lanes { SpeedLanes states.now speeds.now }
-    requires speeds_in_bounds { length (products_of bin states.now speeds.now) ≤ length lane.old }
+    requires room { length (products_of bin states.now speeds.now) ≤ length lane.old }
     ensures { let products = products_of bin states.now speeds.now in
         (result ≡ dynamics_of products)
         × (lane.new ≡ with_front (sort products) lane.old) }

@@ -43,7 +43,7 @@ keeps {plan} {states} {speeds} {co2} ok =
       places = omega (arith, kept_at_most states speeds co2 (length states), ok.ends_room);
       each_moves = kept_each states speeds speeds (λ x. kept_speed_least ≤ x) (length states) (λ i h q. leb-true kept_speed_least (get_or speeds i 0) ((and-eq-true_iff (eqb (get_or states i 0) measured) (leb kept_speed_least (get_or speeds i 0))).0 q).1);
       speeds_in_range = kept_each states speeds speeds (λ x. x ≤ speed_most) (length states) ok.speeds_in_range;
-      co2_in_range_lem = kept_each states speeds co2 (λ x. x ≤ co2_most) (length states) ok.co2_in_range_lem;
+      co2_is_in_range = kept_each states speeds co2 (λ x. x ≤ co2_most) (length states) ok.co2_is_in_range;
     }
 
 module _ {plan : Plan} {speeds co2 : List ℕ} {room : ℕ} (kept : Kept plan speeds co2 room) where
@@ -55,7 +55,7 @@ module _ {plan : Plan} {speeds co2 : List ℕ} {room : ℕ} (kept : Kept plan sp
         reference_is_in_range = rw (le-leb 1 plan.reference ranges.reference_least, le-leb plan.reference reference_most ranges.reference_most_lem) refl;
         few = kept.few;
         places = kept.places;
-        in_range = kept.co2_in_range_lem;
+        in_range = kept.co2_is_in_range;
       }
 
   pub windows_few : windows plan.reference co2 ≤ length co2
@@ -72,7 +72,7 @@ module _ {plan : Plan} {speeds co2 : List ℕ} {room : ℕ} (kept : Kept plan sp
         plan_is_in_range = kept.plan_is_in_range;
         same_length = kept.same_length;
         each_moves = kept.each_moves;
-        speeds_kept_lem = record { few = omega (arith, kept.same_length, kept.few); each = kept.speeds_in_range };
+        speeds_are_kept = record { few = omega (arith, kept.same_length, kept.few); each = kept.speeds_in_range };
         masses_fit = (refusals.measured co2 kept.few (omega (arith, none_out plan.reference co2 room sweepable))).light;
         places = rw is (omega (arith, w.same_length, places));
         all = counted;

@@ -18,7 +18,7 @@ pub record Findable (plan : Plan) (states speeds co2 : List ℕ) (speed_places c
   pub co2_room : length states ≤ co2_places
   pub ends_room : length states ≤ end_places
   pub speeds_in_range : (i : ℕ) → i < length states → second_kept (get_or states i 0) (get_or speeds i 0) ≡ true → get_or speeds i 0 ≤ speed_most
-  pub co2_in_range_lem : (i : ℕ) → i < length states → second_kept (get_or states i 0) (get_or speeds i 0) ≡ true → get_or co2 i 0 ≤ co2_most
+  pub co2_is_in_range : (i : ℕ) → i < length states → second_kept (get_or states i 0) (get_or speeds i 0) ≡ true → get_or co2 i 0 ≤ co2_most
 
 -- kept seconds: at most a trip's, with values in range, and a place for each end
 pub record Kept (plan : Plan) (speeds co2 : List ℕ) (room : ℕ) : Type 0 where
@@ -28,7 +28,7 @@ pub record Kept (plan : Plan) (speeds co2 : List ℕ) (room : ℕ) : Type 0 wher
   pub places : length co2 ≤ room
   pub each_moves : (i : ℕ) → i < length speeds → kept_speed_least ≤ get_or speeds i 0
   pub speeds_in_range : (i : ℕ) → i < length speeds → get_or speeds i 0 ≤ speed_most
-  pub co2_in_range_lem : (i : ℕ) → i < length co2 → get_or co2 i 0 ≤ co2_most
+  pub co2_is_in_range : (i : ℕ) → i < length co2 → get_or co2 i 0 ≤ co2_most
 
 -- kept masses that can be swept
 pub record Sweepable (reference : ℕ) (co2 : List ℕ) (room : ℕ) : Type 0 where

@@ -152,7 +152,7 @@ module _ {plan : Plan} {trip : Lanes} {rooms : Rooms} (ok : Accepted plan trip r
         co2_room = ok.room.for_co2;
         ends_room = ok.room.for_ends;
         speeds_in_range = λ i h kept. kept_speed_in_range trip i (ok.in_range i h) kept;
-        co2_in_range_lem = λ i h kept. kept_co2_in_range trip i (ok.in_range i h) kept;
+        co2_is_in_range = λ i h kept. kept_co2_in_range trip i (ok.in_range i h) kept;
       }
 
   pub bin_lanes : (ranks : List ℕ) → rooms.ranks ≡ length ranks → BinLanes trip.states trip.speeds trip.co2 trip.nox ranks

@@ -74,8 +74,8 @@ module _ (plan : Plan) (trip : Lanes) (lent : Lent) where
       let few_co2 : length (kept_co2_values trip.states trip.speeds trip.co2) ≤ length lent.kept_co2_values = omega (arith, kept_at_most trip.states trip.speeds trip.co2 (seconds_in trip), ok.room.for_co2) in
       let few_ranks : length (ranked_products trip.states trip.speeds) ≤ length lent.ranks = omega (arith, ranks_long trip.states trip.speeds, room trip.states trip.speeds, ok.room.for_ranks) in
       record {
-        kept_speeds_lem = in_front (kept_speed_values trip.states trip.speeds) lent.kept_speed_values _ refl few_speeds;
-        kept_co2_lem = in_front (kept_co2_values trip.states trip.speeds trip.co2) lent.kept_co2_values _ refl few_co2;
+        speeds_in_front = in_front (kept_speed_values trip.states trip.speeds) lent.kept_speed_values _ refl few_speeds;
+        co2_in_front = in_front (kept_co2_values trip.states trip.speeds trip.co2) lent.kept_co2_values _ refl few_co2;
         window_ends = ends_there ok lent.ends refl;
         ends_long = ends_same ok lent.ends refl;
         ranked = in_front (ranked_products trip.states trip.speeds) lent.ranks _ refl few_ranks;

@@ -54,8 +54,8 @@ module _ (plan : Plan) (trip : Lanes) where
 
   -- "An accepted call changes only the places named for it": the lanes after one, place by place
   pub record Leaves (before after : Lent) : Type 0 where
-    pub kept_speeds_lem : InFront kept_speed_values (length kept_speed_values) before.kept_speed_values after.kept_speed_values
-    pub kept_co2_lem : InFront kept_co2_values (length kept_co2_values) before.kept_co2_values after.kept_co2_values
+    pub speeds_in_front : InFront kept_speed_values (length kept_speed_values) before.kept_speed_values after.kept_speed_values
+    pub co2_in_front : InFront kept_co2_values (length kept_co2_values) before.kept_co2_values after.kept_co2_values
     pub window_ends : (f : ℕ) → get_or after.ends f 0 ≡ pick (has_window plan.reference kept_co2_values f) (window_end plan.reference kept_co2_values f) (get_or before.ends f 0)
     pub ends_long : length after.ends ≡ length before.ends
     pub ranked : InFront (ranked_products trip.states trip.speeds) (length (ranked_products trip.states trip.speeds)) before.ranks after.ranks

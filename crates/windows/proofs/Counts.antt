@@ -149,7 +149,7 @@ module _ (plan : Plan) (speeds co2 ends : List ℕ) (count : ℕ) (swept : Swept
         within = omega (arith, w.within);
         within_too = omega (arith, w.within, swept.same_length);
         place = omega (arith, w.from, w.within, swept.places);
-        small = omega (arith, swept.same_length, swept.speeds_kept_lem.few);
+        small = omega (arith, swept.same_length, swept.speeds_are_kept.few);
       }
 
   -- it reaches a reference of at least 1, so it weighs something
@@ -166,10 +166,10 @@ module _ (plan : Plan) (speeds co2 ends : List ℕ) (count : ℕ) (swept : Swept
   turn_seconds =
       let t = turn in
       let n = part_length f (get_or ends f 0) co2 t.within in
-      let kept = part_kept f (get_or ends f 0) speeds (omega arith) t.within-too swept.speeds_kept_lem in
+      let kept = part_kept f (get_or ends f 0) speeds (omega arith) t.within_too swept.speeds_are_kept in
       record {
-        judgeable = record { plan_is_in_range = swept.plan_is_in_range; lasts = omega arith; few = omega (arith, swept.same_length, swept.speeds_kept_lem.few); moves = part_moves f (get_or ends f 0) speeds t.some t.within-too swept.each_moves; weighs = turn_weighs; light = omega (arith, part_light f (get_or ends f 0) co2 (omega arith), swept.masses_fit) };
-        speeds_kept_lem = kept;
+        judgeable = record { plan_is_in_range = swept.plan_is_in_range; lasts = omega arith; few = omega (arith, swept.same_length, swept.speeds_are_kept.few); moves = part_moves f (get_or ends f 0) speeds t.some t.within_too swept.each_moves; weighs = turn_weighs; light = omega (arith, part_light f (get_or ends f 0) co2 (omega arith), swept.masses_fit) };
+        speeds_are_kept = kept;
       }
 
   -- and are judged as the definition says

@@ -56,14 +56,14 @@ pub record KeptSpeeds (speeds : List ℕ) : Type 0 where
 -- what the seconds of one window are
 pub record WindowSeconds (plan : Plan) (speeds co2 : List ℕ) : Type 0 where
   pub judgeable : Judgeable plan (sum speeds) (sum co2) (length co2)
-  pub speeds_kept_lem : KeptSpeeds speeds
+  pub speeds_are_kept : KeptSpeeds speeds
 
 -- the kept lanes of a trip whose sweep is over: the place of each window's first second has its end
 pub record SweptLanes (plan : Plan) (speeds co2 ends : List ℕ) (count : ℕ) : Type 0 where
   pub plan_is_in_range : plan_in_range plan ≡ true
   pub same_length : length speeds ≡ length co2
   pub each_moves : (i : ℕ) → i < length speeds → kept_speed_least ≤ get_or speeds i 0
-  pub speeds_kept_lem : KeptSpeeds speeds
+  pub speeds_are_kept : KeptSpeeds speeds
   pub masses_fit : sum co2 < 2 ^ 32
   pub places : length co2 ≤ length ends
   pub all : count ≡ windows plan.reference co2

@@ -37,7 +37,7 @@ loop-i-init c =
 
 pub recorded_at-recorded-requires : goal.recorded_at-recorded-requires
 recorded_at-recorded-requires c =
-    (c.requires.recorded, omega arith)
+    record { altitude_lanes = c.requires.recorded; i_in_bounds = omega arith }
 
 pub corrected_from-next-requires : goal.corrected_from-next-requires
 corrected_from-next-requires c =
@@ -51,7 +51,7 @@ pub loop-i-preserved : goal.loop-i-preserved
 loop-i-preserved c =
     let l = c.loop-i in
     let a = c.args in
-    let more = one_more a.states.now a.speeds.now a.altitudes.now l.i l l.last c.recorded_at-recorded.result c.corrected_from-next.result l.invariant.1 l.invariant.2 l.invariant.3 l.invariant.4 c.recorded_at-recorded.ensures.0 c.corrected_from-next.ensures c.step_up.ensures in
+    let more = one_more a.states.now a.speeds.now a.altitudes.now l.i l.before l.last c.recorded_at-recorded.result c.corrected_from-next.result l.invariant.1 l.invariant.2 l.invariant.3 l.invariant.4 c.recorded_at-recorded.ensures.0 c.corrected_from-next.ensures c.step_up.ensures in
     (omega arith, more.0, more.1, more.2, more.3, omega arith, c.recorded_at-recorded.ensures.1)
 
 pub returns : goal.returns

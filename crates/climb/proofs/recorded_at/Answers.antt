@@ -14,7 +14,7 @@ use Rattle.climb.proofs.recorded_at.Goals as goal
 
 pub altitude_code-recorded-requires : goal.altitude_code-recorded-requires
 altitude_code-recorded-requires c =
-    omega (arith, c.requires.0.altitudes_agree)
+    omega (arith, c.requires.altitude_lanes.altitudes_agree)
 
 pub returns-then-has_values : goal.returns-then-has_values
 returns-then-has_values c =
@@ -22,7 +22,7 @@ returns-then-has_values c =
     let a = start.args in
     let code = c.altitude_code-recorded.ensures in
     let has : has_values (get_or a.states.now a.i 0) ≡ true = sym c.has_values.ensures ∙ c.if-has_values.true in
-    (ap altitude_of code ∙ of_altitude _ (start.requires.0.in_range a.i start.requires.1 has) ∙ sym (recorded_some a.states.now a.altitudes.now a.i has), omega (arith, code_at_most (get_or a.altitudes.now a.i (pos 0))))
+    (ap altitude_of code ∙ of_altitude _ (start.requires.altitude_lanes.in_range a.i start.requires.i_in_bounds has) ∙ sym (recorded_some a.states.now a.altitudes.now a.i has), omega (arith, code_at_most (get_or a.altitudes.now a.i (pos 0))))
 
 pub returns : goal.returns
 returns c =

@@ -7,19 +7,19 @@ use Rattle.mass.proofs.reading_in_range.Goals as goal
 pub returns-in-WetPpm : goal.returns-in-WetPpm
 unfolding reading_in_range of_bits of_int
 returns-in-WetPpm c =
-    rw (c.zero_to.ensures, c.reading-1.given.1)
+    rw (c.zero_to.ensures, c.in-WetPpm.is)
 
 pub returns-in-DryPpm : goal.returns-in-DryPpm
 unfolding reading_in_range of_bits of_int
 returns-in-DryPpm c =
-    rw (c.zero_to-in-DryPpm.ensures, c.reading-in-DryPpm-1.given.1)
+    rw (c.zero_to-in-DryPpm.ensures, c.in-DryPpm.is)
 
 pub returns-in-WetPercent : goal.returns-in-WetPercent
 unfolding reading_in_range of_bits of_int
 returns-in-WetPercent c =
-    rw (c.zero_to-in-WetPercent.ensures, c.reading-in-WetPercent-1.given.1)
+    rw (c.zero_to-in-WetPercent.ensures, c.in-WetPercent.is)
 
 pub returns-in-DryPercent : goal.returns-in-DryPercent
 unfolding reading_in_range of_bits of_int
 returns-in-DryPercent c =
-    rw (c.zero_to-in-DryPercent.ensures, c.reading-in-DryPercent-1.given.1)
+    rw (c.zero_to-in-DryPercent.ensures, c.in-DryPercent.is)

@@ -7,19 +7,19 @@ use Rattle.mass.proofs.wet_ppm.Goals as goal
 pub returns-in-WetPpm : goal.returns-in-WetPpm
 unfolding wet_ppm
 returns-in-WetPpm c =
-    rw c.reading-1.given.1
+    rw c.in-WetPpm.is
 
 pub returns-in-DryPpm : goal.returns-in-DryPpm
 unfolding wet_ppm
 returns-in-DryPpm c =
-    rw c.reading-in-DryPpm-1.given.1
+    rw c.in-DryPpm.is
 
 pub returns-in-WetPercent : goal.returns-in-WetPercent
 unfolding wet_ppm of_bits of_int
 returns-in-WetPercent c =
-    rw c.reading-in-WetPercent-1.given.1
+    rw c.in-WetPercent.is
 
 pub returns-in-DryPercent : goal.returns-in-DryPercent
 unfolding wet_ppm of_bits of_int
 returns-in-DryPercent c =
-    rw c.reading-in-DryPercent-1.given.1
+    rw c.in-DryPercent.is

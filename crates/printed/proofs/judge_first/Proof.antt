@@ -122,7 +122,7 @@ returns c =
     let first = lending (call c) in
     let a = (began first).args in
     let left = evaluate.last.1.1.1.1.1.1 in
-    subst (Left a.plan (lent_of a.kept-speeds.now a.kept-co2.now a.ends.now a.ranks.now) evaluate.result (lent_of left.0 left.1.0 left.1.1.0 left.1.1.1.0)) (same_lanes (first_seconds_lem first)) evaluate.ensures
+    subst (Left a.plan (lent_of a.kept_speeds.now a.kept_co2.now a.ends.now a.ranks.now) evaluate.result (lent_of left.0 left.1.0 left.1.1.0 left.1.1.1.0)) (same_lanes (first_seconds_lem first)) evaluate.ensures
 
 pub judge_first_spec : {M : Type 1} → statement M
 judge_first_spec =

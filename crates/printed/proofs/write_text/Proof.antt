@@ -32,7 +32,7 @@ abbrev lanes : tie.Start → Lanes
 lanes c = lanes_of c.args.states.now c.args.speeds.now c.args.altitudes.now c.args.co2.now c.args.nox.now
 
 abbrev lent : tie.Start → Lent
-lent c = lent_of c.args.kept-speeds.now c.args.kept-co2.now c.args.ends.now c.args.ranks.now
+lent c = lent_of c.args.kept_speeds.now c.args.kept_co2.now c.args.ends.now c.args.ranks.now
 
 report_refusal_requires : tie.Need-report-refusal-requires
 report_refusal_requires c κs = search rules

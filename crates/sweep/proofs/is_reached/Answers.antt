@@ -33,7 +33,7 @@ returns-then-mass-total c =
 pub closed_rightly-requires : goal.closed_rightly-requires
 closed_rightly-requires c =
     let start = c in
-    omega (arith, c.if-mass-total.false, c.total.type-inv, c.if-taken-dropped.false, c.if-co2-taken.false)
+    omega (arith, c.if-mass-total.false, c.total.type_inv, c.if-taken-dropped.false, c.if-co2-taken.false)
 
 pub needed_last-requires : goal.needed_last-requires
 needed_last-requires c =

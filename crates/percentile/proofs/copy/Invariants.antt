@@ -1,0 +1,15 @@
+-- `percentile::copy` meets its contract: after i turns the lane begins with the first i values. Assumes nothing.
+use borrow.Author.Rules.{rules}
+use Prim.Native.Nat.{◌-◌, ◌≤◌}
+use mathlib.Core.Path.{◌≡◌, refl, ◌∙◌}
+use mathlib.Core.List.{◌++◌}
+use lib.ListN.{length, take, drop, length-set}
+use native.Mathlib.Omega.{arith}
+use Rattle.base.proofs.Store.{copy_next, copied}
+use Rattle.percentile.proofs.copy.Given as goal
+
+abbrev pub invariant-loop-i : goal.invariant-loop-i
+invariant-loop-i l = (l.i ≤ length l.values) × (l.lane ≡ take l.i l.values ++ drop l.i l.initial.lane) × (length l.lane ≡ length l.initial.lane)
+
+abbrev pub decreases-loop-i : goal.decreases-loop-i
+decreases-loop-i l = length l.values - l.i

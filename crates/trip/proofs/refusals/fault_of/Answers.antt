@@ -1,0 +1,74 @@
+-- `refusals::fault_of` meets its contract: its tests are those of the definition, in the same order. Assumes nothing.
+use mathlib.Core.Path.{◌≡◌, sym, ◌∙◌, ap}
+use mathlib.Core.Bool.{true, false}
+use borrow.Author.Tests.{not-true, not-false, lt-ltb, le-ltb}
+use lib.Dec.{ltb}
+use Rattle.base.specs.Plan.{plan_in_range}
+use Rattle.base.specs.Refusal.{out_of_range, fault}
+use Rattle.base.specs.Second.{too_many}
+use Rattle.second.specs.Lanes.{Lanes, lanes_of, seconds_in, lanes_agree, first_bad_second}
+use Rattle.second.proofs.Lanes.{agree}
+use Rattle.trip.specs.Refusals.{too_short}
+use Rattle.trip.proofs.Chain.{gives_plan, gives_differ, gives_many, gives_short, gives_bad, gives_none, gives_accepted}
+use borrow.Author.Rules.{rules}
+use Rattle.trip.proofs.refusals.fault_of.Goals as goal
+
+pub returns-then-not-plan_in_range : goal.returns-then-not-plan_in_range
+returns-then-not-plan_in_range c =
+    c.fault_at.ensures ∙ sym (gives_plan _ _ _ (sym c.plan_in_range.ensures ∙ c.if-not-plan_in_range.true))
+
+pub returns-then-not-lanes_agree : goal.returns-then-not-lanes_agree
+returns-then-not-lanes_agree c =
+    let ranged : plan_in_range c.args.plan ≡ true = sym c.plan_in_range.ensures ∙ c.if-not-plan_in_range.false in
+    c.fault_at-then-not-lanes_agree.ensures ∙ sym (gives_differ _ _ _ ranged (sym c.lanes_agree.ensures ∙ c.if-not-lanes_agree.true))
+
+pub returns-then-too_many : goal.returns-then-too_many
+returns-then-too_many c =
+    let trip : Lanes = let a = c.args in lanes_of a.states.now a.speeds.now a.altitudes.now a.co2.now a.nox.now in
+    let ranged : plan_in_range c.args.plan ≡ true = sym c.plan_in_range.ensures ∙ c.if-not-plan_in_range.false in
+    let agrees : lanes_agree trip ≡ true = sym c.lanes_agree.ensures ∙ c.if-not-lanes_agree.false in
+    c.fault_at-then-too_many.ensures ∙ sym (gives_many _ _ _ ranged agrees (sym c.too_many.ensures ∙ c.if-too_many.true))
+
+pub returns-then-too_short : goal.returns-then-too_short
+returns-then-too_short c =
+    let trip : Lanes = let a = c.args in lanes_of a.states.now a.speeds.now a.altitudes.now a.co2.now a.nox.now in
+    let ranged : plan_in_range c.args.plan ≡ true = sym c.plan_in_range.ensures ∙ c.if-not-plan_in_range.false in
+    let agrees : lanes_agree trip ≡ true = sym c.lanes_agree.ensures ∙ c.if-not-lanes_agree.false in
+    let few : too_many (seconds_in trip) ≡ false = sym c.too_many.ensures ∙ c.if-too_many.false in
+    c.fault_at-then-too_short.ensures ∙ sym (gives_short _ _ _ ranged agrees few (sym c.too_short.ensures ∙ c.if-too_short.true))
+
+pub first_bad-bad-requires : goal.first_bad-bad-requires
+first_bad-bad-requires c =
+    let trip : Lanes = let a = c.args in lanes_of a.states.now a.speeds.now a.altitudes.now a.co2.now a.nox.now in
+    let agrees : lanes_agree trip ≡ true = sym c.lanes_agree.ensures ∙ c.if-not-lanes_agree.false in
+    agree _ agrees
+
+pub returns-then-bad-states : goal.returns-then-bad-states
+returns-then-bad-states c =
+    let trip : Lanes = let a = c.args in lanes_of a.states.now a.speeds.now a.altitudes.now a.co2.now a.nox.now in
+    let ranged : plan_in_range c.args.plan ≡ true = sym c.plan_in_range.ensures ∙ c.if-not-plan_in_range.false in
+    let agrees : lanes_agree trip ≡ true = sym c.lanes_agree.ensures ∙ c.if-not-lanes_agree.false in
+    let few : too_many (seconds_in trip) ≡ false = sym c.too_many.ensures ∙ c.if-too_many.false in
+    let roomy : too_short c.args.rooms (seconds_in trip) ≡ false = sym c.too_short.ensures ∙ c.if-too_short.false in
+    c.fault_at-then-bad-states.ensures ∙ ap (fault out_of_range) c.first_bad-bad.ensures
+    ∙ sym (gives_bad _ _ _ ranged agrees few roomy (rw (sym c.first_bad-bad.ensures) (lt-ltb _ _ c.if-bad-states.true)))
+
+pub returns-then-none_has_values : goal.returns-then-none_has_values
+returns-then-none_has_values c =
+    let trip : Lanes = let a = c.args in lanes_of a.states.now a.speeds.now a.altitudes.now a.co2.now a.nox.now in
+    let ranged : plan_in_range c.args.plan ≡ true = sym c.plan_in_range.ensures ∙ c.if-not-plan_in_range.false in
+    let agrees : lanes_agree trip ≡ true = sym c.lanes_agree.ensures ∙ c.if-not-lanes_agree.false in
+    let few : too_many (seconds_in trip) ≡ false = sym c.too_many.ensures ∙ c.if-too_many.false in
+    let roomy : too_short c.args.rooms (seconds_in trip) ≡ false = sym c.too_short.ensures ∙ c.if-too_short.false in
+    let all_good : ltb (first_bad_second trip) (seconds_in trip) ≡ false = rw (sym c.first_bad-bad.ensures) (le-ltb _ _ c.if-bad-states.false) in
+    c.fault_at-then-none_has_values.ensures ∙ sym (gives_none _ _ _ ranged agrees few roomy all_good (sym c.none_has_values.ensures ∙ c.if-none_has_values.true))
+
+pub returns : goal.returns
+returns c =
+    let trip : Lanes = let a = c.args in lanes_of a.states.now a.speeds.now a.altitudes.now a.co2.now a.nox.now in
+    let ranged : plan_in_range c.args.plan ≡ true = sym c.plan_in_range.ensures ∙ c.if-not-plan_in_range.false in
+    let agrees : lanes_agree trip ≡ true = sym c.lanes_agree.ensures ∙ c.if-not-lanes_agree.false in
+    let few : too_many (seconds_in trip) ≡ false = sym c.too_many.ensures ∙ c.if-too_many.false in
+    let roomy : too_short c.args.rooms (seconds_in trip) ≡ false = sym c.too_short.ensures ∙ c.if-too_short.false in
+    let all_good : ltb (first_bad_second trip) (seconds_in trip) ≡ false = rw (sym c.first_bad-bad.ensures) (le-ltb _ _ c.if-bad-states.false) in
+    c.fault_at-2.ensures ∙ sym (gives_accepted _ _ _ ranged agrees few roomy all_good (sym c.none_has_values.ensures ∙ c.if-none_has_values.false))

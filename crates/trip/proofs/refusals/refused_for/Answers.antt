@@ -1,0 +1,12 @@
+-- `refusals::refused_for` meets its contract: it is the definition's record. Assumes nothing.
+
+use Rattle.trip.proofs.refusals.refused_for.Goals as goal
+use mathlib.Core.Path.{refl}
+use Rattle.trip.specs.Trip.{refused}
+use Rattle.trip.proofs.refusals.refused_for.Statement.{statement}
+use Rattle.trip.proofs.refusals.refused_for.Tie as tie
+
+pub returns : goal.returns
+unfolding refused
+returns c =
+    refl
