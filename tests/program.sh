@@ -248,12 +248,12 @@ for shell in sh $(command -v bash); do
 done
 
 # A copy with program and library built, in whose folder a name can begin with anything.
-mkdir -p "$room/copy/target/bin" "$room/copy/target/staticlib" "$room/copy/examples"
-cp -Rp Makefile tools include crates crates.txt "$room/copy"
+mkdir -p "$room/copy/crates/base/src" "$room/copy/target/bin" "$room/copy/target/staticlib" "$room/copy/examples"
+cp -Rp Makefile tools include crates.txt "$room/copy"
 cp -Rp examples/c "$room/copy/examples"
 cp -p "$judge" "$room/copy/target/bin"
 cp -p target/staticlib/libcapi.a "$room/copy/target/staticlib"
-cp -p target/judge.built target/lib.built "$room/copy/target"
+touch "$room/copy/target/judge.built" "$room/copy/target/lib.built"
 for name in "it's a \$5 trip.trip" '$HOME $(TRIP) $$.trip' 'a;b & c#d.trip' '-n' '--' '"q" \n `x` *?.trip' 'a=b:c%d|e'; do
     cp examples/printed.trip "$room/copy/./$name"
     runs make --no-print-directory -C "$room/copy" judge TRIP="$name"
@@ -278,25 +278,36 @@ ends "an odd release, by make judge-as" 2 "there is no release \`\$0 '; #\`"
 small=$room/small
 mkdir -p "$small/crates" "$room/saying"
 cp -Rp Makefile tools include "$small"
-printf '%s\n' '# a comment' 'base:' 'item: base' 'other: base' 'judge: item io' 'capi: item' 'probe: other' >"$small/crates.txt"
+printf '%s\n' '# a comment' 'base:' 'item: base' 'other: base' 'judge: item' 'capi_c staticlib: item' 'probe staticlib: other' >"$small/crates.txt"
+for crate in base item other judge capi_c probe; do
+    mkdir -p "$small/crates/$crate/src"
+done
 cat >"$room/saying/rt" <<'END'
 #!/bin/sh
-echo "$*" >>asked
-echo "fn base::some: proved"
-echo "rt: base proved (6 s)"
-echo "rt: item proved (unchanged since it was last proved)"
-[ ! -e fails ] || exit 1
+crate=${PWD##*/}
+echo "$crate: $*" >>../../asked
 case $* in
-"check judge")
-    mkdir -p target/bin
-    printf '#!/bin/sh\necho "refused 4 at 0"\n' >target/bin/judge
-    chmod +x target/bin/judge
-    echo "rt: judge proved (30 s)"
+"all check")
+    echo "rt: chose 2 at a time"
+    echo "== base"
+    echo "fn base::some: proved"
+    echo "logic=proved functions=1"
+    echo "== item"
+    [ ! -e ../../fails ] || exit 1
+    echo "== $crate"
+    echo "logic=proved functions=1"
+    echo "== summary"
+    echo "3 of 3 crates ok"
     ;;
-"staticlib "*)
-    mkdir -p target/staticlib
-    : >"target/staticlib/lib$2.a"
-    echo "rt: target/staticlib/lib$2.a has the functions of $2"
+"run --backend llvm")
+    mkdir -p out
+    printf '#!/bin/sh\necho "refused 4 at 0"\n' >out/judge
+    chmod +x out/judge
+    out/judge
+    ;;
+lib)
+    mkdir -p out
+    : >"out/lib$crate.a"
     ;;
 esac
 END
@@ -304,7 +315,7 @@ chmod +x "$room/saying/rt"
 
 # saying COMMAND ..: runs a command in the small repository, from nothing, with the rt that says so.
 saying() {
-    rm -rf "$small/target" "$small/asked"
+    rm -rf "$small/target" "$small/asked" "$small"/crates/*/out
     PATH="$room/saying:$PATH" runs "$@"
 }
 
@@ -317,10 +328,10 @@ saying "$small/tools/lib"
 says "the library, in a log" "target/pierbracken: libpierbracken.a pierbracken.h"
 ends "the library, in a log" 0 "lib: proving the library's 3 crates; this takes minutes the first time
 lib: crate 1 of 3 proved: base
-lib: crate 3 of 3 proved: capi"
+lib: crate 3 of 3 proved: capi_c"
 cp "$small/asked" "$room/said"
-says "the library is what is proved for the library" "check base item
-staticlib capi"
+says "the library is what is proved for the library" "capi_c: all check
+capi_c: lib"
 # again: the library once more, not from nothing; `asked` is there where something was proved.
 again() {
     rm -f "$small/asked"
@@ -329,9 +340,12 @@ again() {
 }
 again
 wants "a library that is built is not proved again" /dev/null
-: >"$small/crates/edited"
+mkdir "$small/crates/item/out" && : >"$small/crates/item/out/kept"
 again
-says "a library older than a source is proved again" "check base item"
+wants "what rt keeps is no source" /dev/null
+: >"$small/crates/item/src/edited"
+again
+says "a library older than a source is proved again" "capi_c: all check"
 
 : >"$small/fails"
 saying "$small/tools/judge" examples/printed.trip

@@ -10,8 +10,7 @@ use crossing::accelerations;
 use crossing::accelerations::{AccelerationAnswer, PercentileAnswer};
 
 // D of second `index`, from 0, of a trip's lanes.
-#[unsafe(no_mangle)]
-pub extern "C" fn pb_acceleration(
+pub fn pb_acceleration(
     states: &[u8],
     speeds: &[u16],
     altitudes: &[i32],
@@ -26,8 +25,7 @@ pub extern "C" fn pb_acceleration(
 }
 
 // Q of products in any order, which are ranked into the lane.
-#[unsafe(no_mangle)]
-pub extern "C" fn pb_percentile(products: &[u32], ranks: &mut [u32]) -> PercentileAnswer
+pub fn pb_percentile(products: &[u32], ranks: &mut [u32]) -> PercentileAnswer
     ensures { (result ≡ percentile_across (answer_of products.now (length ranks.old))) × (ranks.new ≡ lane_of products.now ranks.old) }
 {
     accelerations::percentile(products, ranks)

@@ -9,16 +9,14 @@ use reader::{Fed, Reader};
 use stream::ReadAnswer;
 
 // The reader before the first block.
-#[unsafe(no_mangle)]
-pub extern "C" fn pb_start() -> Reader
+pub fn pb_start() -> Reader
     ensures { result ≡ started }
 {
     reader::start()
 }
 
 // Feeds a block into a reader and five lanes.
-#[unsafe(no_mangle)]
-pub extern "C" fn pb_feed(
+pub fn pb_feed(
     reader: Reader,
     block: &[u8],
     states: &mut [u8],
@@ -36,8 +34,7 @@ pub extern "C" fn pb_feed(
 }
 
 // The answer at the end of the stream.
-#[unsafe(no_mangle)]
-pub extern "C" fn pb_end(reader: Reader) -> ReadAnswer
+pub fn pb_end(reader: Reader) -> ReadAnswer
     ensures { result ≡ end_of reader }
 {
     reader::end(reader)

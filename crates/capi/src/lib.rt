@@ -2,7 +2,7 @@
 // stand in the order release, reasons, concentration, streams, feeding, sweeping, accelerations,
 // trips. Each function takes and gives plain numbers, structs by value and lent lanes, and answers
 // as the call of the library that it stands for; the number of refusal, the place and the results
-// cross in one struct.
+// cross in one struct. The crate `capi_c` exports each under its name.
 #![tactic(auto)]
 
 pub mod accelerations;

@@ -6,8 +6,7 @@ ghost use Rattle.sweep.specs.Sweep.{sweep_answer, sweep_ends};
 use sweep::{SweepState, Swept};
 
 // A budget of moves of the sweep, from a state.
-#[unsafe(no_mangle)]
-pub extern "C" fn pb_sweep(
+pub fn pb_sweep(
     reference: u32,
     co2: &[u32],
     ends: &mut [u16],

@@ -9,8 +9,7 @@ use base::Plan;
 use trip::Evaluated;
 
 // Evaluates a trip from its plan and its five lanes; the four lent lanes need a place per second.
-#[unsafe(no_mangle)]
-pub extern "C" fn pb_evaluate(
+pub fn pb_evaluate(
     plan: Plan,
     states: &[u8],
     speeds: &[u16],

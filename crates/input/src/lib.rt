@@ -1,6 +1,6 @@
 // Standard input, read block by block into a reader and five lanes, to its end, to the first bad
-// item, or to a read that fails. No contract can say which bytes a call of C moves; the contracts
-// here say what is made of the bytes that came. specs/Input.antt says what is right.
+// item, or to a read that fails. No contract can say which bytes a read moves; the contracts here say
+// what is made of the bytes that came. specs/Input.antt says what is right.
 #![tactic(auto)]
 
 ghost use Rattle.std.specs.Prelude.{◌≡◌, false, ◌≤◌, length, take};
@@ -11,6 +11,7 @@ ghost use Rattle.input.specs.Input.{block_most, reads_on, HasRead};
 use base::limits;
 use item::kind;
 use reader::Reader;
+use std::io::{Read, Stdin};
 
 // The most bytes of one read.
 pub const BLOCK: usize = 4_096;
@@ -31,6 +32,7 @@ pub struct Input {
 // Reads the input until no further byte can change the answer: to its end, to the first bad item, or
 // to a read that fails.
 pub fn read_input(
+    stdin: Stdin,
     block: &mut [u8],
     states: &mut [u8],
     speeds: &mut [u16],
@@ -53,15 +55,16 @@ pub fn read_input(
     let mut reads = READS;
     while reads > 0 && input.more {
         let reader = input.reader;
-        input = read_block(reader, block, states, speeds, altitudes, co2, nox);
+        input = read_block(stdin, reader, block, states, speeds, altitudes, co2, nox);
         reads -= 1;
     }
     input
 }
 
 // Reads a block, as many bytes as there are, and feeds it to the reader. A read that brings no byte is
-// the end of the input, or failed.
+// the end of the input, or failed; one that a signal interrupts failed.
 fn read_block(
+    stdin: Stdin,
     reader: Reader,
     block: &mut [u8],
     states: &mut [u8],
@@ -78,14 +81,16 @@ fn read_block(
     ensures within { result.came ≤ block_most }
     ensures goes_on { result.more ≡ reads_on result }
 {
-    let got = libc::read(libc::STDIN_FILENO, block);
-    let came = io::count(got, block);
+    let mut from = stdin;
+    let got = from.read(block);
+    let failed = got.is_err();
+    let came = got.unwrap_or(0);
     if came == 0 {
         return Input {
             reader: reader,
             came: 0,
             more: false,
-            failed: got < 0,
+            failed: failed,
         };
     }
     let fed = blocks::feed(reader, &block[..came], states, speeds, altitudes, co2, nox);

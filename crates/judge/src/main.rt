@@ -1,7 +1,7 @@
 // The program: reads a trip stream from standard input, block by block, judges it, and prints the
 // six lines, or the one line of a refusal. A read that fails is no end of the stream: then it says
-// so on standard error and judges nothing. No contract can say which bytes a call of C moves; the
-// contracts here say what is made of the bytes that came, up to the text in the buffer that is
+// so on standard error and judges nothing. No contract can say which bytes a read or a write moves;
+// the contracts here say what is made of the bytes that came, up to the text in the buffer that is
 // written out.
 #![tactic(auto)]
 
@@ -15,6 +15,7 @@ ghost use Rattle.input.specs.Input.{block_most};
 ghost use Rattle.judge.specs.Inside.{HasPlaces};
 ghost use Rattle.judge.specs.Judged.{JudgedAsOne};
 
+use std::io::{Stderr, Stdin, Stdout, Write};
 use stream::ReadAnswer;
 
 // The places of each lane that the program lends, a second in each. No lane passes 64 KiB.
@@ -22,7 +23,7 @@ const PLACES: usize = 8_192;
 
 // Lends what is filled: a block, nine lanes, and a buffer for the longest text. Says on standard error
 // where the input could not be read.
-fn main() {
+fn main(rt: HostRuntime) {
     let mut block = [0u8; input::BLOCK];
     let mut states = [0u8; PLACES];
     let mut speeds = [0u16; PLACES];
@@ -35,6 +36,9 @@ fn main() {
     let mut ranks = [0u32; PLACES];
     let mut text = [0u8; report::LONGEST_TEXT];
     let could_read = judge_input(
+        rt.stdin(),
+        rt.stdout(),
+        rt.stderr(),
         &mut block,
         &mut states,
         &mut speeds,
@@ -48,7 +52,7 @@ fn main() {
         &mut text,
     );
     if !could_read {
-        io::write_all(libc::STDERR_FILENO, b"unreadable\n");
+        write_whole(&mut rt.stderr(), b"unreadable\n");
     }
 }
 
@@ -56,6 +60,9 @@ fn main() {
 // the evaluation and the report say of one stream. Answers whether the input could be read; where it
 // could not, nothing is judged.
 fn judge_input(
+    stdin: Stdin,
+    stdout: Stdout,
+    stderr: Stderr,
     block: &mut [u8],
     states: &mut [u8],
     speeds: &mut [u16],
@@ -76,12 +83,14 @@ fn judge_input(
         (result ≡ true → JudgedAsOne lanes rooms text.old text.new) }
     ensures unjudged { result ≡ false → text.new ≡ text.old }
 {
-    let input = input::read_input(block, states, speeds, altitudes, co2, nox);
+    let input = input::read_input(stdin, block, states, speeds, altitudes, co2, nox);
     let reader = input.reader;
     if input.failed {
         return false;
     }
     print_answer(
+        stdout,
+        stderr,
         reader::end(reader),
         states,
         speeds,
@@ -99,6 +108,8 @@ fn judge_input(
 
 // Judges what was read into the lanes, writes the answer to the text's buffer and prints it.
 fn print_answer(
+    stdout: Stdout,
+    stderr: Stderr,
     read: ReadAnswer,
     states: &[u8],
     speeds: &[u16],
@@ -131,7 +142,23 @@ fn print_answer(
         ranks,
         text,
     );
-    if !io::write_all(libc::STDOUT_FILENO, &text[..length]) {
-        io::write_all(libc::STDERR_FILENO, b"unwritable\n");
+    let mut out = stdout;
+    if !write_whole(&mut out, &text[..length]) {
+        let mut error = stderr;
+        write_whole(&mut error, b"unwritable\n");
     }
+}
+
+// Writes all of the bytes and answers true, or stops at the first write that takes none or fails, and
+// answers false.
+fn write_whole<W: Write>(to: &mut W, bytes: &[u8]) -> bool {
+    let mut done = 0;
+    while done < bytes.len() {
+        let took = to.write(&bytes[done..]).unwrap_or(0);
+        if took == 0 {
+            return false;
+        }
+        done += took;
+    }
+    true
 }

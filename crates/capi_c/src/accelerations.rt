@@ -1,0 +1,34 @@
+// D of one second, and the percentile of products.
+
+ghost use Rattle.std.specs.Prelude.{◌≡◌, length};
+ghost use Rattle.second.specs.Lanes.{lanes_of};
+ghost use Rattle.acceleration.specs.D.{acceleration_of};
+ghost use Rattle.percentile.specs.Percentile.{answer_of, lane_of};
+ghost use Rattle.crossing.specs.Accelerations.{acceleration_across, percentile_across};
+
+use capi::accelerations;
+use crossing::accelerations::{AccelerationAnswer, PercentileAnswer};
+
+// D of second `index`, from 0, of a trip's lanes.
+#[unsafe(no_mangle)]
+pub extern "C" fn pb_acceleration(
+    states: &[u8],
+    speeds: &[u16],
+    altitudes: &[i32],
+    co2: &[u32],
+    nox: &[u32],
+    index: usize,
+) -> AccelerationAnswer
+    ensures { let trip = lanes_of states.now speeds.now altitudes.now co2.now nox.now in
+        result ≡ acceleration_across (acceleration_of trip index) }
+{
+    accelerations::pb_acceleration(states, speeds, altitudes, co2, nox, index)
+}
+
+// Q of products in any order, which are ranked into the lane.
+#[unsafe(no_mangle)]
+pub extern "C" fn pb_percentile(products: &[u32], ranks: &mut [u32]) -> PercentileAnswer
+    ensures { (result ≡ percentile_across (answer_of products.now (length ranks.old))) × (ranks.new ≡ lane_of products.now ranks.old) }
+{
+    accelerations::pb_percentile(products, ranks)
+}

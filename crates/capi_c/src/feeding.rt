@@ -1,0 +1,45 @@
+// A stream that arrives in blocks.
+
+ghost use Rattle.std.specs.Prelude.{◌≡◌};
+ghost use Rattle.second.specs.Lanes.{lanes_of, room_in};
+ghost use Rattle.reader.specs.Reader.{started};
+ghost use Rattle.reader.specs.Blocks.{fed_of, lanes_fed, end_of};
+
+use capi::feeding;
+use reader::{Fed, Reader};
+use stream::ReadAnswer;
+
+// The reader before the first block.
+#[unsafe(no_mangle)]
+pub extern "C" fn pb_start() -> Reader
+    ensures { result ≡ started }
+{
+    feeding::pb_start()
+}
+
+// Feeds a block into a reader and five lanes.
+#[unsafe(no_mangle)]
+pub extern "C" fn pb_feed(
+    reader: Reader,
+    block: &[u8],
+    states: &mut [u8],
+    speeds: &mut [u16],
+    altitudes: &mut [i32],
+    co2: &mut [u32],
+    nox: &mut [u32],
+) -> Fed
+    ensures { let lanes = lanes_of states.old speeds.old altitudes.old co2.old nox.old in
+        let left = lanes_of states.new speeds.new altitudes.new co2.new nox.new in
+        (result ≡ fed_of (room_in lanes) reader block.now)
+        × (left ≡ lanes_fed reader block.now lanes) }
+{
+    feeding::pb_feed(reader, block, states, speeds, altitudes, co2, nox)
+}
+
+// The answer at the end of the stream.
+#[unsafe(no_mangle)]
+pub extern "C" fn pb_end(reader: Reader) -> ReadAnswer
+    ensures { result ≡ end_of reader }
+{
+    feeding::pb_end(reader)
+}
