@@ -4,7 +4,7 @@ use mathlib.Core.List.{List, ◌++◌, flatten}
 use Rattle.item.specs.Format.{Bytes}
 use Rattle.second.specs.declared.Row.{Row}
 use Rattle.second.specs.Lanes.{Lanes, each_lane, room_in}
-use Rattle.second.proofs.EachLane as Each-lane
+use Rattle.second.proofs.EachLane as by_lane
 use Rattle.stream.specs.Reading.{read_of, lane_after, stream_left}
 use Rattle.reader.specs.declared.Reader.{Reader}
 use Rattle.reader.specs.Reader.{carry_places, started}
@@ -13,10 +13,10 @@ use Rattle.reader.specs.Reached.{Reached}
 use Rattle.reader.proofs.Feeding as feeding
 use Rattle.reader.proofs.Whole as whole
 use Rattle.reader.proofs.Reached as reached
-use Rattle.blocks.proofs.feed.Reads as feed-call
-use Rattle.reader.proofs.end.Reads as end-call
-use Rattle.capi.proofs.feeding.pb_feed.Reads as pb-feed-call
-use Rattle.capi.proofs.feeding.pb_end.Reads as pb-end-call
+use Rattle.blocks.proofs.feed.Reads as feed_call
+use Rattle.reader.proofs.end.Reads as end_call
+use Rattle.capi.proofs.feeding.pb_feed.Reads as pb_feed_call
+use Rattle.capi.proofs.feeding.pb_end.Reads as pb_end_call
 
 -- `room` is the number of places of the shortest lane, `value` what a lane holds of a second.
 
@@ -37,7 +37,7 @@ lanes_all blocks lanes = each_lane (λ A value lane. lane_all value (room_in lan
 
 pub same_lanes : (blocks : List (List ℕ)) (lanes : Lanes) → (read_of (room_in lanes) (flatten blocks)).refusal ≡ 0 → lanes_all blocks lanes ≡ stream_left (flatten blocks) lanes
 same_lanes blocks lanes z =
-    Each-lane.same-lanes (Each-lane.each-own (λ A value a b. a ≡ b) lanes (λ A value. lane_all value (room_in lanes) started blocks) (λ A value. lane_after value (room_in lanes) (flatten blocks)) (λ A value lane fits. same_lane (room_in lanes) blocks value lane fits z))
+    by_lane.same_lanes (by_lane.each_own (λ A value a b. a ≡ b) lanes (λ A value. lane_all value (room_in lanes) started blocks) (λ A value. lane_after value (room_in lanes) (flatten blocks)) (λ A value lane fits. same_lane (room_in lanes) blocks value lane fits z))
 
 -- feeding a and then b is feeding both as one: the reader and the lanes
 pub reader_in_two : (room : ℕ) (r : Reader) (a b : List ℕ) → reader_after room (reader_after room r a) b ≡ reader_after room r (a ++ b)

@@ -6,45 +6,45 @@ use denote.Triple.Clauses.{AtExit}
 use borrow.Fn.Kinds as contract
 use Rattle.second.specs.Lanes.{Lanes, lanes_of, room_in}
 use Rattle.mass.specs.Mass.{co2_mass, nox_mass}
-use Rattle.mass.proofs.co2_mass.Reads as co2-mass-call
-use Rattle.mass.proofs.nox_mass.Reads as nox-mass-call
+use Rattle.mass.proofs.co2_mass.Reads as co2_mass_call
+use Rattle.mass.proofs.nox_mass.Reads as nox_mass_call
 use Rattle.item.specs.Item.{item_of}
-use Rattle.item.proofs.read_item.Reads as read-item-call
+use Rattle.item.proofs.read_item.Reads as read_item_call
 use Rattle.stream.specs.Reading.{read_of, stream_left}
-use Rattle.stream.proofs.read_stream.Kinds as stream-kinds
-use Rattle.stream.proofs.read_stream.Reads as read-stream-call
+use Rattle.stream.proofs.read_stream.Kinds as stream_kinds
+use Rattle.stream.proofs.read_stream.Reads as read_stream_call
 use Rattle.writer.specs.Writing.{write_of, buffer_after}
-use Rattle.writer.proofs.write_stream.Kinds as write-kinds
-use Rattle.writer.proofs.write_stream.Reads as write-stream-call
+use Rattle.writer.proofs.write_stream.Kinds as write_kinds
+use Rattle.writer.proofs.write_stream.Reads as write_stream_call
 use Rattle.reader.specs.Reader.{started}
 use Rattle.reader.specs.Blocks.{fed_of, lanes_fed, end_of}
-use Rattle.reader.proofs.start.Kinds as start-kinds
-use Rattle.reader.proofs.start.Reads as start-call
-use Rattle.blocks.proofs.feed.Kinds as feed-kinds
-use Rattle.blocks.proofs.feed.Reads as feed-call
-use Rattle.reader.proofs.end.Kinds as end-kinds
-use Rattle.reader.proofs.end.Reads as end-call
+use Rattle.reader.proofs.start.Kinds as start_kinds
+use Rattle.reader.proofs.start.Reads as start_call
+use Rattle.blocks.proofs.feed.Kinds as feed_kinds
+use Rattle.blocks.proofs.feed.Reads as feed_call
+use Rattle.reader.proofs.end.Kinds as end_kinds
+use Rattle.reader.proofs.end.Reads as end_call
 use Rattle.sweep.specs.Sweep.{sweep_answer, sweep_ends}
-use Rattle.sweep.proofs.sweep.Kinds as sweep-kinds
-use Rattle.sweep.proofs.sweep.Reads as sweep-call
+use Rattle.sweep.proofs.sweep.Kinds as sweep_kinds
+use Rattle.sweep.proofs.sweep.Reads as sweep_call
 use Rattle.acceleration.specs.D.{acceleration_of}
-use Rattle.acceleration.proofs.d_of_second.Kinds as d-kinds
-use Rattle.acceleration.proofs.d_of_second.Reads as d-of-second-call
+use Rattle.acceleration.proofs.d_of_second.Kinds as d_kinds
+use Rattle.acceleration.proofs.d_of_second.Reads as d_of_second_call
 use Rattle.percentile.specs.Percentile as percentiles
-use Rattle.percentile.proofs.percentile.Reads as percentile-call
+use Rattle.percentile.proofs.percentile.Reads as percentile_call
 use Rattle.trip.specs.Trip.{answer_of}
 use Rattle.trip.specs.Lent.{Lent, lent_of, rooms_in, lent_left}
-use Rattle.trip.proofs.evaluate.Kinds as trip-kinds
-use Rattle.trip.proofs.evaluate.Reads as evaluate-call
+use Rattle.trip.proofs.evaluate.Kinds as trip_kinds
+use Rattle.trip.proofs.evaluate.Reads as evaluate_call
 use Rattle.verdict.specs.Verdict.{has_any}
-use Rattle.verdict.proofs.has_reason.Kinds as reason-kinds
-use Rattle.verdict.proofs.has_reason.Reads as has-reason-call
+use Rattle.verdict.proofs.has_reason.Kinds as reason_kinds
+use Rattle.verdict.proofs.has_reason.Reads as has_reason_call
 use Rattle.report.specs.Lines.{judged_text, refusal_text, length_written, buffer_written}
-use Rattle.report.proofs.report.Reads as report-call
-use Rattle.report.proofs.report_refusal.Reads as report-refusal-call
+use Rattle.report.proofs.report.Reads as report_call
+use Rattle.report.proofs.report_refusal.Reads as report_refusal_call
 use Rattle.printed.specs.Printed.{printed_text, lent_after}
-use Rattle.printed.proofs.write_text.Kinds as print-kinds
-use Rattle.printed.proofs.write_text.Reads as write-text-call
+use Rattle.printed.proofs.write_text.Kinds as print_kinds
+use Rattle.printed.proofs.write_text.Reads as write_text_call
 
 -- `Pre` and `Post` of a call are its contract, read by the toolchain from `src/`: what it asks of the inputs, and which result
 -- and which parameters at exit it allows for them. A parameter is named by its place in the parameter list: `.0` the first,

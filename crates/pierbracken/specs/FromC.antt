@@ -7,20 +7,20 @@ use Rattle.percentile.specs.Percentile as percentiles
 use Rattle.crossing.specs.Concentration.{mass_across, answer_of}
 use Rattle.crossing.specs.Items.{item_across}
 use Rattle.crossing.specs.Accelerations.{acceleration_across, percentile_across}
-use Rattle.capi.proofs.release.pb_meaning.Reads as pb-meaning-call
-use Rattle.capi.proofs.concentration.pb_mass_co2.Reads as pb-mass-co2-call
-use Rattle.capi.proofs.concentration.pb_mass_nox.Reads as pb-mass-nox-call
-use Rattle.capi.proofs.streams.pb_item.Reads as pb-item-call
-use Rattle.capi.proofs.streams.pb_read.Reads as pb-read-call
-use Rattle.capi.proofs.streams.pb_write.Reads as pb-write-call
-use Rattle.capi.proofs.feeding.pb_start.Reads as pb-start-call
-use Rattle.capi.proofs.feeding.pb_feed.Reads as pb-feed-call
-use Rattle.capi.proofs.feeding.pb_end.Reads as pb-end-call
-use Rattle.capi.proofs.sweeping.pb_sweep.Reads as pb-sweep-call
-use Rattle.capi.proofs.accelerations.pb_acceleration.Reads as pb-acceleration-call
-use Rattle.capi.proofs.accelerations.pb_percentile.Reads as pb-percentile-call
-use Rattle.capi.proofs.trips.pb_evaluate.Reads as pb-evaluate-call
-use Rattle.capi.proofs.reasons.pb_has_reason.Reads as pb-has-reason-call
+use Rattle.capi.proofs.release.pb_meaning.Reads as pb_meaning_call
+use Rattle.capi.proofs.concentration.pb_mass_co2.Reads as pb_mass_co2_call
+use Rattle.capi.proofs.concentration.pb_mass_nox.Reads as pb_mass_nox_call
+use Rattle.capi.proofs.streams.pb_item.Reads as pb_item_call
+use Rattle.capi.proofs.streams.pb_read.Reads as pb_read_call
+use Rattle.capi.proofs.streams.pb_write.Reads as pb_write_call
+use Rattle.capi.proofs.feeding.pb_start.Reads as pb_start_call
+use Rattle.capi.proofs.feeding.pb_feed.Reads as pb_feed_call
+use Rattle.capi.proofs.feeding.pb_end.Reads as pb_end_call
+use Rattle.capi.proofs.sweeping.pb_sweep.Reads as pb_sweep_call
+use Rattle.capi.proofs.accelerations.pb_acceleration.Reads as pb_acceleration_call
+use Rattle.capi.proofs.accelerations.pb_percentile.Reads as pb_percentile_call
+use Rattle.capi.proofs.trips.pb_evaluate.Reads as pb_evaluate_call
+use Rattle.capi.proofs.reasons.pb_has_reason.Reads as pb_has_reason_call
 use Rattle.pierbracken.specs.Calls.{Answers, Gives, lanes_before, index_behind, ReadsStream, WritesStream, Starts, Feeds, Ends, Sweeps, Evaluates, TestsReason}
 
 -- ---- the calls that answer as those of the library do, in the same words

@@ -5,7 +5,7 @@ use Rattle.base.specs.InFront.{InFront, StoredFrom}
 use Rattle.second.specs.Lanes.{Lanes}
 use Rattle.second.specs.declared.Row.{Row}
 use Rattle.stream.specs.Reading.{read_of, seconds_of, lane_after}
-use Rattle.stream.proofs.Lanes as stream-lanes
+use Rattle.stream.proofs.Lanes as stream_lanes_law
 use Rattle.stream.proofs.Theorems as stream
 use Rattle.reader.specs.declared.Reader.{Reader}
 use Rattle.reader.specs.Blocks.{seconds_added, fed_of, lane_fed}
@@ -16,7 +16,7 @@ use Rattle.sweep.specs.Runs.{Written}
 use Rattle.sweep.proofs.Theorems as sweep
 use Rattle.order.specs.Sort.{sort}
 use Rattle.percentile.specs.Percentile.{fault_of, lane_of}
-use Rattle.percentile.proofs.Refusals as percentile-refusals
+use Rattle.percentile.proofs.Refusals as percentile_refusals
 use Rattle.percentile.proofs.Theorems as percentile
 use Rattle.trip.specs.Trip.{answer_of}
 use Rattle.trip.specs.Lent.{Lent, rooms_in, lent_left, Leaves}
@@ -31,7 +31,7 @@ use Rattle.report.proofs.Theorems as report
 -- ---- the stream: `value` is what a lane holds of a second, `room` the places of the shortest lane
 module _ {ℓ} {A : Type ℓ} (value : Row → A) (room : ℕ) (bytes : List ℕ) (lane : List A) where
   pub stream_refused : ((read_of room bytes).refusal ≡ 0 → ⊥) → lane_after value room bytes lane ≡ lane
-  stream_refused = stream_lanes_lem.lane-refused value room bytes lane
+  stream_refused = stream_lanes_law.lane_refused value room bytes lane
 
   -- "touches no place beyond the seconds read"
   pub stream_accepted : (read_of room bytes).refusal ≡ 0 → room ≤ length lane → InFront (map value (seconds_of room bytes)) (read_of room bytes).seconds lane (lane_after value room bytes lane)
@@ -56,7 +56,7 @@ module _ (reference : ℕ) (co2 ends : List ℕ) (state : SweepState) (budget : 
 -- ---- the percentile: "ranks them into a lent lane with a place for each"
 module _ (values lane : List ℕ) where
   pub percentile_refused : ((fault_of values (length lane)).number ≡ 0 → ⊥) → lane_of values lane ≡ lane
-  percentile_refused = percentile_refusals.lane-refused values lane
+  percentile_refused = percentile_refusals.lane_refused values lane
 
   pub percentile_accepted : (fault_of values (length lane)).number ≡ 0 → InFront (sort values) (length values) lane (lane_of values lane)
   percentile_accepted = percentile.accepted_writes values lane

@@ -11,32 +11,32 @@ use Rattle.mass.specs.declared.Reading.{Reading}
 use Rattle.mass.specs.declared.Setting.{Setting}
 use Rattle.mass.specs.declared.Weighed.{Weighed}
 use Rattle.mass.specs.Mass.{mg_in_a_gram, µg_in_a_gram, co2_mass, nox_mass}
-use Rattle.mass.specs.Outcomes as mass-outcomes
+use Rattle.mass.specs.Outcomes as mass_outcomes
 use Rattle.mass.proofs.Theorems as mass
 use Rattle.item.specs.declared.Front.{Front}
 use Rattle.item.specs.Item.{item_of, refusal_of, length_of}
-use Rattle.item.specs.Outcomes as item-outcomes
+use Rattle.item.specs.Outcomes as item_outcomes
 use Rattle.item.proofs.Refused as item
 use Rattle.stream.specs.declared.ReadAnswer.{ReadAnswer}
 use Rattle.stream.specs.Reading.{read_of}
-use Rattle.stream.specs.Outcomes as stream-outcomes
+use Rattle.stream.specs.Outcomes as stream_outcomes
 use Rattle.stream.proofs.Refusals as stream
 use Rattle.sweep.specs.declared.SweepState.{SweepState}
 use Rattle.sweep.specs.Sweep.{sweep_answer, refused_answer, place_of}
-use Rattle.sweep.specs.Outcomes as sweep-outcomes
+use Rattle.sweep.specs.Outcomes as sweep_outcomes
 use Rattle.sweep.proofs.Theorems as sweep
 use Rattle.acceleration.specs.declared.Acceleration.{Acceleration}
 use Rattle.acceleration.specs.D as d
-use Rattle.acceleration.specs.Outcomes as d-outcomes
+use Rattle.acceleration.specs.Outcomes as d_outcomes
 use Rattle.acceleration.proofs.Theorems as acceleration
 use Rattle.percentile.specs.declared.Answer.{Answer}
 use Rattle.percentile.specs.Percentile as percentiles
-use Rattle.percentile.specs.Outcomes as percentile-outcomes
+use Rattle.percentile.specs.Outcomes as percentile_outcomes
 use Rattle.percentile.proofs.Theorems as percentile
 use Rattle.trip.specs.declared.Rooms.{Rooms}
 use Rattle.trip.specs.Lent.{rooms_in}
 use Rattle.trip.specs.Trip.{answer_of, refused}
-use Rattle.trip.specs.Outcomes as trip-outcomes
+use Rattle.trip.specs.Outcomes as trip_outcomes
 use Rattle.trip.proofs.Refused as trip
 use Rattle.trip.proofs.Theorems as trips
 use Rattle.report.specs.Lines.{judged_text, refusal_text}
@@ -46,33 +46,33 @@ use Rattle.printed.proofs.Texts as printed
 use Rattle.crossing.specs.Concentration as concentration
 use Rattle.crossing.specs.Items.{front_across, item_answer, no_contents}
 use Rattle.crossing.specs.Accelerations.{acceleration_across, percentile_across}
-use Rattle.crossing.specs.Outcomes as crossing-outcomes
+use Rattle.crossing.specs.Outcomes as crossing_outcomes
 use Rattle.crossing.proofs.Theorems as crossing
-use Rattle.mass.proofs.co2_mass.Reads as co2-mass-call
-use Rattle.mass.proofs.nox_mass.Reads as nox-mass-call
-use Rattle.item.proofs.read_item.Reads as read-item-call
-use Rattle.stream.proofs.read_stream.Kinds as stream-kinds
-use Rattle.stream.proofs.read_stream.Reads as read-stream-call
-use Rattle.sweep.proofs.sweep.Kinds as sweep-kinds
-use Rattle.sweep.proofs.sweep.Reads as sweep-call
-use Rattle.acceleration.proofs.d_of_second.Reads as d-of-second-call
-use Rattle.percentile.proofs.percentile.Reads as percentile-call
-use Rattle.trip.proofs.evaluate.Kinds as trip-kinds
-use Rattle.trip.proofs.evaluate.Reads as evaluate-call
-use Rattle.report.proofs.report.Reads as report-call
-use Rattle.report.proofs.report_refusal.Reads as report-refusal-call
-use Rattle.printed.proofs.write_text.Reads as write-text-call
-use Rattle.capi.proofs.concentration.pb_mass_co2.Reads as pb-mass-co2-call
-use Rattle.capi.proofs.concentration.pb_mass_nox.Reads as pb-mass-nox-call
-use Rattle.capi.proofs.streams.pb_item.Reads as pb-item-call
-use Rattle.capi.proofs.streams.pb_read.Reads as pb-read-call
-use Rattle.capi.proofs.sweeping.pb_sweep.Reads as pb-sweep-call
-use Rattle.capi.proofs.accelerations.pb_acceleration.Reads as pb-acceleration-call
-use Rattle.capi.proofs.accelerations.pb_percentile.Reads as pb-percentile-call
-use Rattle.capi.proofs.trips.pb_evaluate.Reads as pb-evaluate-call
+use Rattle.mass.proofs.co2_mass.Reads as co2_mass_call
+use Rattle.mass.proofs.nox_mass.Reads as nox_mass_call
+use Rattle.item.proofs.read_item.Reads as read_item_call
+use Rattle.stream.proofs.read_stream.Kinds as stream_kinds
+use Rattle.stream.proofs.read_stream.Reads as read_stream_call
+use Rattle.sweep.proofs.sweep.Kinds as sweep_kinds
+use Rattle.sweep.proofs.sweep.Reads as sweep_call
+use Rattle.acceleration.proofs.d_of_second.Reads as d_of_second_call
+use Rattle.percentile.proofs.percentile.Reads as percentile_call
+use Rattle.trip.proofs.evaluate.Kinds as trip_kinds
+use Rattle.trip.proofs.evaluate.Reads as evaluate_call
+use Rattle.report.proofs.report.Reads as report_call
+use Rattle.report.proofs.report_refusal.Reads as report_refusal_call
+use Rattle.printed.proofs.write_text.Reads as write_text_call
+use Rattle.capi.proofs.concentration.pb_mass_co2.Reads as pb_mass_co2_call
+use Rattle.capi.proofs.concentration.pb_mass_nox.Reads as pb_mass_nox_call
+use Rattle.capi.proofs.streams.pb_item.Reads as pb_item_call
+use Rattle.capi.proofs.streams.pb_read.Reads as pb_read_call
+use Rattle.capi.proofs.sweeping.pb_sweep.Reads as pb_sweep_call
+use Rattle.capi.proofs.accelerations.pb_acceleration.Reads as pb_acceleration_call
+use Rattle.capi.proofs.accelerations.pb_percentile.Reads as pb_percentile_call
+use Rattle.capi.proofs.trips.pb_evaluate.Reads as pb_evaluate_call
 use Rattle.pierbracken.specs.Calls.{Answers, stream_lanes, evaluation_lanes, lanes_before, index_behind, trip_in, lent_in, text_printed, print_buffer}
 use Rattle.pierbracken.specs.Calls as calls
-use Rattle.pierbracken.specs.FromC as from-c
+use Rattle.pierbracken.specs.FromC as from_c
 
 -- `Outcome` and `Given`, in the `specs/Outcomes` of each crate, have a constructor for each number of refusal, in the order of the
 -- call, with the conditions of that number; the last one is that of an accepted call. A fault is a number and a place.
@@ -152,11 +152,11 @@ nox_mass_refused = of_call calls.nox_mass_lem (λ κs a. nox_mass_lem a.0 a.1.0)
 
 pub pb_mass_co2_refused : RefusedAs pb_mass_co2_call.Post (λ κs x. x.refusal) (λ κs a. crossing_outcomes.Outcome mg_in_a_gram co2_most a.0 a.1.0 a.1.1.0)
 unfolding co2_mass
-pb_mass_co2_refused = of_call from_c.pb-mass-co2 (λ κs a. crossing.mass_exactly mg_in_a_gram co2_most a.0 a.1.0 a.1.1.0)
+pb_mass_co2_refused = of_call from_c.pb_mass_co2 (λ κs a. crossing.mass_exactly mg_in_a_gram co2_most a.0 a.1.0 a.1.1.0)
 
 pub pb_mass_nox_refused : RefusedAs pb_mass_nox_call.Post (λ κs x. x.refusal) (λ κs a. crossing_outcomes.Outcome µg_in_a_gram nox_most a.0 a.1.0 a.1.1.0)
 unfolding nox_mass
-pb_mass_nox_refused = of_call from_c.pb-mass-nox (λ κs a. crossing.mass_exactly µg_in_a_gram nox_most a.0 a.1.0 a.1.1.0)
+pb_mass_nox_refused = of_call from_c.pb_mass_nox (λ κs a. crossing.mass_exactly µg_in_a_gram nox_most a.0 a.1.0 a.1.1.0)
 
 -- one item
 pub item_refused : RefusedAs read_item_call.Post (λ κs x. refusal_of x) (λ κs a. item_outcomes.Outcome a.0.now)
@@ -164,7 +164,7 @@ item_refused = of_call calls.read_item (λ κs a. one_item a.0.now)
 
 pub pb_item_refused : RefusedAs pb_item_call.Post (λ κs x. x.refusal) (λ κs a. item_outcomes.Outcome a.0.now)
 unfolding front_across
-pb_item_refused = of_call from_c.pb-item (λ κs a. one_item a.0.now)
+pb_item_refused = of_call from_c.pb_item (λ κs a. one_item a.0.now)
 
 -- a whole stream
 abbrev StreamRefused : contract.Out stream_lanes stream_kinds.ps stream_kinds.r → Type 0
@@ -175,7 +175,7 @@ pub stream_refused : StreamRefused read_stream_call.Post
 stream_refused = of_call calls.read_stream (λ κs a. whole_stream _ a.0.now)
 
 pub pb_read_refused : StreamRefused pb_read_call.Post
-pb_read_refused = of_call from_c.pb-read (λ κs a. whole_stream _ a.0.now)
+pb_read_refused = of_call from_c.pb_read (λ κs a. whole_stream _ a.0.now)
 
 -- the sweep
 abbrev SweepRefused : contract.Out 2 sweep_kinds.ps sweep_kinds.r → Type 0
@@ -186,21 +186,21 @@ pub sweep_refused : SweepRefused sweep_call.Post
 sweep_refused = of_call calls.sweep (λ κs a. sweeping a.0 a.1.0.now (length a.1.1.0.now) a.1.1.1.0 a.1.1.1.1.0)
 
 pub pb_sweep_refused : SweepRefused pb_sweep_call.Post
-pb_sweep_refused = of_call from_c.pb-sweep (λ κs a. sweeping a.0 a.1.0.now (length a.1.1.0.now) a.1.1.1.0 a.1.1.1.1.0)
+pb_sweep_refused = of_call from_c.pb_sweep (λ κs a. sweeping a.0 a.1.0.now (length a.1.1.0.now) a.1.1.1.0 a.1.1.1.1.0)
 
 -- D of one second
 pub d_refused : RefusedAs d_of_second_call.Post (λ κs x. d.fault_in x) (λ κs a. d_outcomes.Outcome (lanes_before κs a) (index_behind κs a))
 d_refused = of_call calls.d_of_second (λ κs a. d_of_second (lanes_before κs a) (index_behind κs a))
 
 pub pb_acceleration_refused : RefusedAs pb_acceleration_call.Post (λ κs x. fault x.refusal x.place) (λ κs a. d_outcomes.Outcome (lanes_before κs a) (index_behind κs a))
-pb_acceleration_refused = of_call from_c.pb-acceleration (λ κs a. through (crossing.acceleration_fault _) (d_of_second (lanes_before κs a) (index_behind κs a)))
+pb_acceleration_refused = of_call from_c.pb_acceleration (λ κs a. through (crossing.acceleration_fault _) (d_of_second (lanes_before κs a) (index_behind κs a)))
 
 -- the percentile
 pub percentile_refused : RefusedAs percentile_call.Post (λ κs x. percentiles.fault_in x) (λ κs a. percentile_outcomes.Outcome a.0.now (length a.1.0.now))
 percentile_refused = of_call calls.percentile (λ κs a. ranking a.0.now (length a.1.0.now))
 
 pub pb_percentile_refused : RefusedAs pb_percentile_call.Post (λ κs x. fault x.refusal x.place) (λ κs a. percentile_outcomes.Outcome a.0.now (length a.1.0.now))
-pb_percentile_refused = of_call from_c.pb-percentile (λ κs a. through (crossing.percentile_fault _) (ranking a.0.now (length a.1.0.now)))
+pb_percentile_refused = of_call from_c.pb_percentile (λ κs a. through (crossing.percentile_fault _) (ranking a.0.now (length a.1.0.now)))
 
 -- a trip
 abbrev TripRefused : contract.Out evaluation_lanes trip_kinds.ps trip_kinds.r → Type 0
@@ -211,7 +211,7 @@ pub trip_refused : TripRefused evaluate_call.Post
 trip_refused = of_call calls.evaluate (λ κs a. whole_trip a.0 _ _)
 
 pub pb_evaluate_refused : TripRefused pb_evaluate_call.Post
-pb_evaluate_refused = of_call from_c.pb-evaluate (λ κs a. whole_trip a.0 _ _)
+pb_evaluate_refused = of_call from_c.pb_evaluate (λ κs a. whole_trip a.0 _ _)
 
 -- ---- a text is answered by 0 exactly when the buffer is too short for it
 abbrev TextRefused : {L : Type 0} {In Exit : L → Type 0} → ((κs : L) → In κs → ℕ → Exit κs → Type 0) → ((κs : L) → In κs → List ℕ) → ((κs : L) → In κs → List ℕ) → Type 0
