@@ -33,8 +33,8 @@ pub struct Bins {
 // of the bins, each ascending, and the rest of it is as it was.
 pub fn measure(states: &[u8], speeds: &[u16], co2: &[u32], nox: &[u32], ranks: &mut [u32]) -> Bins
     requires { BinLanes states.now speeds.now co2.now nox.now ranks.old }
-    ensures { let states = states.entry.now in
-        let speeds = speeds.entry.now in
+    ensures { let states = states.now in
+        let speeds = speeds.now in
         (result ≡ bins_of states speeds co2.now nox.now)
         × (ranks.new ≡ ranks_of states speeds ranks.old) }
 {

@@ -23,8 +23,8 @@ pub struct Figures {
 // products, each ascending, and the rest of it is as it was.
 pub fn dynamics(states: &[u8], speeds: &[u16], ranks: &mut [u32]) -> [Figures; 3]
     requires { DynamicsLanes states.now speeds.now ranks.old }
-    ensures { let states = states.entry.now in
-        let speeds = speeds.entry.now in
+    ensures { let states = states.now in
+        let speeds = speeds.now in
         (result ≡ of_each (λ bin. dynamics_of (products_of bin states speeds)))
         × (ranks.new ≡ ranks_of states speeds ranks.old) }
 {

@@ -19,17 +19,16 @@ returns-then-number-ne-ACCEPTED c =
     let trip : Lanes = lanes_of c.args.states.now c.args.speeds.now c.args.altitudes.now c.args.co2.now c.args.nox.now in
     let lent : Lent = lent_of c.args.kept_speeds.now c.args.kept_co2.now c.args.ends.now c.args.ranks.now in
     let rooms : Rooms = rooms_in lent in
-    let no_good : let start = c in is_accepted start.args.plan trip rooms ≡ false = is_refused _ _ _ (λ e. c.if-number-ne-ACCEPTED.true (ap (λ (f : Fault). f.number) c.fault_of-fault.ensures ∙ e)) in
-    let no = no_good in
-    (rw (refused_answer_lem _ _ _ no, ← c.fault_of-fault.ensures) c.refused_for.ensures, sym (refused_lent _ _ _ no))
+    let no_good : is_accepted c.args.plan trip rooms ≡ false = is_refused _ _ _ (λ e. c.if-number-ne-ACCEPTED.true (ap (λ (f : Fault). f.number) c.fault_of-fault.ensures ∙ e)) in
+    (rw (refused_answer_lem _ _ _ no_good, ← c.fault_of-fault.ensures) c.refused_for.ensures, sym (refused_lent _ _ _ no_good))
 
 pub find-found-requires : goal.find-found-requires
 find-found-requires c =
     let trip : Lanes = lanes_of c.args.states.now c.args.speeds.now c.args.altitudes.now c.args.co2.now c.args.nox.now in
     let lent : Lent = lent_of c.args.kept_speeds.now c.args.kept_co2.now c.args.ends.now c.args.ranks.now in
     let rooms : Rooms = rooms_in lent in
-    let number_zero : let start = c in (trip_fault start.args.plan trip rooms).number ≡ accepted = ap (λ (f : Fault). f.number) (sym c.fault_of-fault.ensures) ∙ c.if-number-ne-ACCEPTED.false in
-    let ok : let start = c in Accepted start.args.plan trip rooms = passed _ _ _ number_zero in
+    let number_zero : (trip_fault c.args.plan trip rooms).number ≡ accepted = ap (λ (f : Fault). f.number) (sym c.fault_of-fault.ensures) ∙ c.if-number-ne-ACCEPTED.false in
+    let ok : Accepted c.args.plan trip rooms = passed _ _ _ number_zero in
     findable ok
 
 pub measure-bins-requires : goal.measure-bins-requires
@@ -37,17 +36,17 @@ measure-bins-requires c =
     let trip : Lanes = lanes_of c.args.states.now c.args.speeds.now c.args.altitudes.now c.args.co2.now c.args.nox.now in
     let lent : Lent = lent_of c.args.kept_speeds.now c.args.kept_co2.now c.args.ends.now c.args.ranks.now in
     let rooms : Rooms = rooms_in lent in
-    let number_zero : let start = c in (trip_fault start.args.plan trip rooms).number ≡ accepted = ap (λ (f : Fault). f.number) (sym c.fault_of-fault.ensures) ∙ c.if-number-ne-ACCEPTED.false in
-    let ok : let start = c in Accepted start.args.plan trip rooms = passed _ _ _ number_zero in
-    bin_lanes ok refl
+    let number_zero : (trip_fault c.args.plan trip rooms).number ≡ accepted = ap (λ (f : Fault). f.number) (sym c.fault_of-fault.ensures) ∙ c.if-number-ne-ACCEPTED.false in
+    let ok : Accepted c.args.plan trip rooms = passed _ _ _ number_zero in
+    bin_lanes ok _ refl
 
 pub conclude-requires : goal.conclude-requires
 conclude-requires c =
     let trip : Lanes = lanes_of c.args.states.now c.args.speeds.now c.args.altitudes.now c.args.co2.now c.args.nox.now in
     let lent : Lent = lent_of c.args.kept_speeds.now c.args.kept_co2.now c.args.ends.now c.args.ranks.now in
     let rooms : Rooms = rooms_in lent in
-    let number_zero : let start = c in (trip_fault start.args.plan trip rooms).number ≡ accepted = ap (λ (f : Fault). f.number) (sym c.fault_of-fault.ensures) ∙ c.if-number-ne-ACCEPTED.false in
-    let ok : let start = c in Accepted start.args.plan trip rooms = passed _ _ _ number_zero in
+    let number_zero : (trip_fault c.args.plan trip rooms).number ≡ accepted = ap (λ (f : Fault). f.number) (sym c.fault_of-fault.ensures) ∙ c.if-number-ne-ACCEPTED.false in
+    let ok : Accepted c.args.plan trip rooms = passed _ _ _ number_zero in
     climb_lanes ok
 
 pub returns : goal.returns
@@ -56,10 +55,8 @@ returns c =
     let trip : Lanes = lanes_of c.args.states.now c.args.speeds.now c.args.altitudes.now c.args.co2.now c.args.nox.now in
     let lent : Lent = lent_of c.args.kept_speeds.now c.args.kept_co2.now c.args.ends.now c.args.ranks.now in
     let rooms : Rooms = rooms_in lent in
-    let number_zero : let start = c in (trip_fault start.args.plan trip rooms).number ≡ accepted = ap (λ (f : Fault). f.number) (sym c.fault_of-fault.ensures) ∙ c.if-number-ne-ACCEPTED.false in
-    let good : let start = c in is_accepted start.args.plan trip rooms ≡ true = is_accepted_lem _ _ _ number_zero in
-    let found = c in
-    let yes = good in
-    let f = found.find-found.ensures in
+    let number_zero : (trip_fault c.args.plan trip rooms).number ≡ accepted = ap (λ (f : Fault). f.number) (sym c.fault_of-fault.ensures) ∙ c.if-number-ne-ACCEPTED.false in
+    let good : is_accepted c.args.plan trip rooms ≡ true = is_accepted_lem _ _ _ number_zero in
+    let f = c.find-found.ensures in
     let m = c.measure-bins.ensures in
-    (rw (c.conclude.ensures, f.0, m.0, accepted_answer _ _ _ yes) refl, same_lent f.1 f.2 f.3 m.1 ∙ sym (accepted_lent _ _ _ yes))
+    (rw (c.conclude.ensures, f.0, m.0, accepted_answer _ _ _ good) refl, same_lent f.1 f.2 f.3 m.1 ∙ sym (accepted_lent _ _ _ good))
