@@ -1,5 +1,4 @@
 -- `acceleration::d_of` meets its contract by the order of the two speeds. Assumes nothing.
-use borrow.Author.Rules.{rules}
 use mathlib.Core.Path.{sym}
 use native.Mathlib.Omega.{arith}
 use Rattle.acceleration.proofs.Rise.{numbered_up, numbered_down}

@@ -1,12 +1,12 @@
 -- `acceleration::d_of_second` meets its contract: an accepted index is inside the lanes, and the rest is picked as in the definition.
 -- Assumes nothing.
 use Prim.Native.Nat.{◌<◌}
-use mathlib.Core.Path.{◌≡◌, sym, ◌∙◌, refl, ap}
+use mathlib.Core.Path.{sym, ◌∙◌, refl, ap}
 use borrow.Author.Tests.{eq-eqb, ne_eqb}
 use lib.ListN.{length}
-use Rattle.second.specs.Lanes.{Lanes, lanes_of}
+use Rattle.second.specs.Lanes.{lanes_of}
 use Rattle.acceleration.proofs.Refusals.{Accepted, accepted_facts}
-use Rattle.acceleration.specs.D.{fault_of, acceleration_of}
+use Rattle.acceleration.specs.D.{acceleration_of}
 use Rattle.acceleration.proofs.d_of_second.Goals as goal
 
 pub returns-then-number-ne-ACCEPTED : goal.returns-then-number-ne-ACCEPTED

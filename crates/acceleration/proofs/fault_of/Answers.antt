@@ -1,10 +1,8 @@
 -- `acceleration::fault_of` meets its contract: its tests are those of the definition, in the same order. Assumes nothing.
 use mathlib.Core.Path.{◌≡◌, sym, ◌∙◌, refl}
-use mathlib.Core.Bool.{true, false}
-use borrow.Author.Tests.{not-true, not-false, lt-ltb, le-ltb}
-use lib.Dec.{ltb}
-use Rattle.base.specs.Second.{too_many}
-use Rattle.second.specs.Lanes.{Lanes, lanes_of, seconds_in, lanes_agree, first_bad_second}
+use mathlib.Core.Bool.{false}
+use borrow.Author.Tests.{lt-ltb, le-ltb}
+use Rattle.second.specs.Lanes.{lanes_of, lanes_agree}
 use Rattle.second.proofs.Lanes.{agree}
 use Rattle.acceleration.specs.D.{fault_of}
 use Rattle.acceleration.proofs.fault_of.Goals as goal

@@ -1,5 +1,4 @@
 -- `acceleration::has_d` meets its contract: its tests are those of the definition, in the same order. Assumes nothing.
-use borrow.Author.Rules.{rules}
 use mathlib.Core.Path.{refl}
 use Rattle.acceleration.specs.D.{has_d}
 use Rattle.acceleration.proofs.has_d.Goals as goal

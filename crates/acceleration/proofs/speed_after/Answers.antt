@@ -1,5 +1,4 @@
 -- `acceleration::speed_after` meets its contract by the laws of the second after. Assumes nothing.
-use borrow.Author.Rules.{rules}
 use mathlib.Core.Path.{sym}
 use native.Mathlib.Omega.{arith}
 use Rattle.acceleration.proofs.Neighbours as law

@@ -1,5 +1,4 @@
 -- `bins::join` meets its contract: the three bins are those of the definition. Assumes nothing.
-use borrow.Author.Rules.{rules}
 use mathlib.Core.Path.{refl}
 use Rattle.bins.specs.Inside.{joined_all}
 use Rattle.bins.proofs.join.Goals as goal

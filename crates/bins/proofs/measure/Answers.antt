@@ -1,7 +1,6 @@
 -- `bins::measure` meets its contract: tallies and dynamics put together are the bins. Assumes nothing.
 use borrow.Author.Rules.{rules}
 use mathlib.Core.Path.{refl}
-use native.Mathlib.Omega.{arith}
 use Rattle.bins.proofs.Joining.{joins, totals, totals_fit}
 use Rattle.bins.proofs.measure.Goals as goal
 

@@ -1,5 +1,4 @@
 -- `climb::apart` meets its contract: it takes the lesser number from the greater. Assumes nothing.
-use borrow.Author.Rules.{rules}
 use native.Mathlib.Omega.{arith}
 use Rattle.base.proofs.Integers.{size_of_sub}
 use Rattle.climb.proofs.apart.Goals as goal

@@ -1,7 +1,6 @@
 -- `climb::climb` meets its contract: after i seconds each variable is what the definition has there, altitudes by their codes, and
 -- the climb is below 2 ^ 32 a second. Assumes nothing.
-use borrow.Author.Rules.{rules}
-use Prim.Native.Nat.{ℕ, ◌+◌, ◌-◌, ◌*◌, ◌^◌, ◌≤◌}
+use Prim.Native.Nat.{ℕ, ◌+◌}
 use mathlib.Core.Path.{◌≡◌, refl, sym, ◌∙◌, ap}
 use mathlib.Core.Bool.{Bool, ◌||◌}
 use mathlib.Core.List.{List}
@@ -13,7 +12,7 @@ use Rattle.base.specs.Words.{how_many}
 use Rattle.climb.specs.declared.Climbed.{Climbed}
 use Rattle.climb.specs.Corrected.{recorded_at, recorded_before, corrected, corrected_after, highest_altitude, high_after}
 use Rattle.climb.specs.Climb.{step_up, climb_after, climb_of}
-use Rattle.climb.specs.Inside.{sea_level, code_most, altitude_of}
+use Rattle.climb.specs.Inside.{sea_level, altitude_of}
 use Rattle.climb.proofs.Codes.{of_none, high_of}
 use Rattle.climb.proofs.Altitudes.{before_none, before_more, corrected_none, corrected_more, high_none, high_more}
 use Rattle.climb.proofs.Steps.{climb_none, climb_more}

@@ -1,5 +1,4 @@
 -- `climb::corrected_from` meets its contract: its tests are those of the definition, in the same order. Assumes nothing.
-use borrow.Author.Rules.{rules}
 use mathlib.Core.Path.{sym, ◌∙◌}
 use native.Mathlib.Omega.{arith}
 use Rattle.climb.proofs.Codes.{passed_over, stands, held, not_held}

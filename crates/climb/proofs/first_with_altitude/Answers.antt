@@ -1,10 +1,8 @@
 -- `climb::first_with_altitude` meets its contract: no second before i has an altitude, and the one that it stops at has, or is the
 -- end. Assumes nothing.
-use borrow.Author.Rules.{rules}
-use Prim.Native.Nat.{ℕ, ◌-◌, ◌≤◌, ◌<◌}
 use mathlib.Core.Path.{◌≡◌, sym, ◌∙◌}
 use mathlib.Core.Bool.{true, false}
-use lib.ListN.{length, get_or}
+use lib.ListN.{get_or}
 use borrow.Author.Count.{below_none, below_more}
 use native.Mathlib.Omega.{arith}
 use Rattle.base.proofs.Search.{finds, finds_none}

@@ -1,13 +1,9 @@
 -- `climb::last_with_altitude` meets its contract: no second from i on has an altitude. Assumes nothing.
-use borrow.Author.Rules.{rules}
-use Prim.Native.Nat.{◌-◌, ◌≤◌}
-use mathlib.Core.Path.{◌≡◌, sym, ◌∙◌, ap}
-use mathlib.Core.Bool.{true, false}
-use lib.ListN.{length, get_or}
-use native.Mathlib.Omega.{arith}
-use Rattle.second.specs.Row.{has_values}
+use Prim.Native.Nat.{◌≤◌}
+use mathlib.Core.Path.{◌≡◌}
+use lib.ListN.{length}
 use Rattle.climb.specs.Ends.{last_with_altitude}
-use Rattle.climb.proofs.Ends.{last_of, last_is, last_none, last_found, last_passed}
+use Rattle.climb.proofs.Ends.{last_of}
 use Rattle.climb.proofs.last_with_altitude.Given as goal
 
 abbrev pub invariant-loop-i : goal.invariant-loop-i

@@ -1,5 +1,4 @@
 -- `climb::recorded_at` meets its contract: the code of an altitude in range stands for it, and 0 for none. Assumes nothing.
-use borrow.Author.Rules.{rules}
 use mathlib.Core.Path.{◌≡◌, refl, sym, ◌∙◌, ap}
 use mathlib.Core.Bool.{true, false}
 use lib.IntN.{pos}

@@ -1,6 +1,5 @@
 -- `dynamics::bin_dynamics` meets its contract: the products are written to the front of the lane and ranked there. Assumes nothing.
 use native.Mathlib.Omega.{arith}
-use borrow.Author.Rules.{rules}
 use Rattle.dynamics.proofs.Bin.{count_fits, count_few, figures_are, lane_is}
 use Rattle.dynamics.proofs.bin_dynamics.Goals as goal
 

@@ -1,5 +1,4 @@
 -- `dynamics::dynamics` meets its contract: each bin's products are ranked right behind those of the bin before. Assumes nothing.
-use borrow.Author.Rules.{rules}
 use Rattle.dynamics.proofs.Three.{speed_lanes, room_urban, room_rural, room_motorway, all_figures, all_ranked}
 use Rattle.dynamics.proofs.dynamics.Goals as goal
 

@@ -1,5 +1,4 @@
 -- `dynamics::dynamics_from` meets its contract: what the call leaves of the part is put back in its place. Assumes nothing.
-use borrow.Author.Rules.{rules}
 use lib.ListN.{length}
 use Rattle.order.specs.Sort.{sort}
 use Rattle.acceleration.specs.Products.{products_of}

@@ -1,5 +1,4 @@
 -- `found::find` meets its contract: what is kept stands at the front of its lanes. Assumes nothing.
-use borrow.Author.Rules.{rules}
 use mathlib.Core.Path.{◌∙◌}
 use Rattle.kept.specs.Kept.{kept_of}
 use Rattle.kept.proofs.Keeping.{kept_both}

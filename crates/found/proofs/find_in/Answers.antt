@@ -1,5 +1,4 @@
 -- `found::find_in` meets its contract: the sweep has come to its end, so the lane has the end of each window. Assumes nothing.
-use borrow.Author.Rules.{rules}
 use mathlib.Core.Path.{refl}
 use native.Mathlib.Omega.{arith}
 use Rattle.windows.specs.Inside.{counts_of}

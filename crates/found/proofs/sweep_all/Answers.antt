@@ -1,5 +1,4 @@
 -- `found::sweep_all` meets its contract: its budget lasts to the end of the sweep. Assumes nothing.
-use borrow.Author.Rules.{rules}
 use mathlib.Core.Path.{◌∙◌}
 use Rattle.found.proofs.Ending.{dropped_all, moves_all, ends_all}
 use Rattle.found.proofs.sweep_all.Goals as goal

@@ -1,5 +1,4 @@
 -- `found::three_of` meets its contract: it leaves the fourth count out. Assumes nothing.
-use borrow.Author.Rules.{rules}
 use mathlib.Core.Path.{refl}
 use Rattle.found.specs.Inside.{three_of}
 use Rattle.found.proofs.three_of.Goals as goal

@@ -1,11 +1,10 @@
 -- `kept::keep` meets its contract: after i seconds each lane begins with the values of those kept, and the rest of it is as it was.
 -- Assumes nothing.
 use borrow.Author.Rules.{rules}
-use Prim.Native.Nat.{◌-◌, ◌≤◌}
 use mathlib.Core.Path.{◌≡◌, sym, ◌∙◌}
 use native.Mathlib.Omega.{arith}
 use lib.ListN.{length}
-use Rattle.kept.proofs.Keeping.{Front, front_none, front_same, front_room, front_more}
+use Rattle.kept.proofs.Keeping.{front_none, front_same, front_room, front_more}
 use Rattle.kept.proofs.keep.Goals as goal
 
 pub loop-i-init : goal.loop-i-init

@@ -1,11 +1,8 @@
 -- `kept::keep` meets its contract: after i seconds each lane begins with the values of those kept, and the rest of it is as it was.
 -- Assumes nothing.
-use borrow.Author.Rules.{rules}
 use Prim.Native.Nat.{◌-◌, ◌≤◌}
-use mathlib.Core.Path.{◌≡◌, sym, ◌∙◌}
-use native.Mathlib.Omega.{arith}
 use lib.ListN.{length}
-use Rattle.kept.proofs.Keeping.{Front, front_none, front_same, front_room, front_more}
+use Rattle.kept.proofs.Keeping.{Front}
 use Rattle.kept.proofs.keep.Given as goal
 
 abbrev pub invariant-loop-i : goal.invariant-loop-i

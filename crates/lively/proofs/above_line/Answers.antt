@@ -1,6 +1,5 @@
 -- `lively::above_line` meets its contract: a word times half a word leaves the sum room, and the products are those of the definition.
 -- Assumes nothing.
-use borrow.Author.Rules.{rules}
 use Prim.Native.Nat.{◌*◌, ◌-◌, ◌^◌}
 use mathlib.Core.Path.{refl}
 use native.Mathlib.Omega.{arith}

@@ -1,6 +1,5 @@
 -- `lively::below_curve` meets its contract: the high words are small, so the sum has room, and the products are those of the
 -- definition. Assumes nothing.
-use borrow.Author.Rules.{rules}
 use Prim.Native.Nat.{◌*◌, ◌-◌, ◌^◌}
 use mathlib.Core.Path.{refl}
 use native.Mathlib.Nat.{mul_assoc}

@@ -1,5 +1,4 @@
 -- `lively::too_dull` meets its contract: its test is that of the definition. Assumes nothing.
-use borrow.Author.Rules.{rules}
 use Prim.Native.Nat.{◌*◌}
 use mathlib.Core.Path.{refl}
 use native.Mathlib.Omega.{arith}

@@ -1,5 +1,4 @@
 -- `mass::last_product` meets its contract: it makes the definition's products, in its order. Assumes nothing.
-use borrow.Author.Rules.{rules}
 use Rattle.mass.specs.Mass.{last_product}
 use Rattle.mass.proofs.last_product.Goals as goal
 

@@ -1,6 +1,5 @@
 -- `mass::reading_in_range` meets its contract: each case tests the definition's range; the code's f64 numbers are the definition's. Assumes nothing.
 use lib.Ieee.{of_bits, of_int}
-use borrow.Author.Rules.{rules}
 use Rattle.mass.specs.Mass.{reading_in_range}
 use Rattle.mass.proofs.reading_in_range.Goals as goal
 

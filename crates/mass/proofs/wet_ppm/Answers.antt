@@ -1,6 +1,5 @@
 -- `mass::wet_ppm` meets its contract: each case is the definition's, and its 10,000 is the definition's f64. Assumes nothing.
 use lib.Ieee.{of_bits, of_int}
-use borrow.Author.Rules.{rules}
 use Rattle.mass.specs.Mass.{wet_ppm}
 use Rattle.mass.proofs.wet_ppm.Goals as goal
 

@@ -1,9 +1,6 @@
 -- `percentile::copy` meets its contract: after i turns the lane begins with the first i values. Assumes nothing.
-use borrow.Author.Rules.{rules}
-use Prim.Native.Nat.{◌-◌, ◌≤◌}
-use mathlib.Core.Path.{◌≡◌, refl, ◌∙◌}
-use mathlib.Core.List.{◌++◌}
-use lib.ListN.{length, take, drop, length-set}
+use mathlib.Core.Path.{refl, ◌∙◌}
+use lib.ListN.{length-set}
 use native.Mathlib.Omega.{arith}
 use Rattle.base.proofs.Store.{copy_next, copied}
 use Rattle.percentile.proofs.copy.Goals as goal

@@ -1,11 +1,8 @@
 -- `percentile::copy` meets its contract: after i turns the lane begins with the first i values. Assumes nothing.
-use borrow.Author.Rules.{rules}
 use Prim.Native.Nat.{◌-◌, ◌≤◌}
-use mathlib.Core.Path.{◌≡◌, refl, ◌∙◌}
+use mathlib.Core.Path.{◌≡◌}
 use mathlib.Core.List.{◌++◌}
-use lib.ListN.{length, take, drop, length-set}
-use native.Mathlib.Omega.{arith}
-use Rattle.base.proofs.Store.{copy_next, copied}
+use lib.ListN.{length, take, drop}
 use Rattle.percentile.proofs.copy.Given as goal
 
 abbrev pub invariant-loop-i : goal.invariant-loop-i

@@ -1,5 +1,4 @@
 -- `percentile::fault_of` meets its contract: its tests are those of the definition, in the same order. Assumes nothing.
-use borrow.Author.Rules.{rules}
 use mathlib.Core.Path.{◌≡◌, sym, ◌∙◌, refl}
 use mathlib.Core.Bool.{false}
 use native.Mathlib.Omega.{arith}

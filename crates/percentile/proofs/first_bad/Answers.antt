@@ -1,15 +1,11 @@
 -- `percentile::first_bad` meets its contract: each value before i is good, and the one that it stops at is not, or is the end.
 -- Assumes nothing.
-use borrow.Author.Rules.{rules}
-use Prim.Native.Nat.{ℕ, ◌-◌, ◌≤◌, ◌<◌}
-use mathlib.Core.Path.{◌≡◌, sym}
-use mathlib.Core.Bool.{true}
-use lib.ListN.{length, get_or}
+use mathlib.Core.Path.{sym}
 use borrow.Author.Count.{below_none, below_more}
 use borrow.Author.Tests.{le-leb, lt-leb}
 use native.Mathlib.Omega.{arith}
 use Rattle.base.proofs.Search.{stops_at, comes_to}
-use Rattle.percentile.specs.Percentile.{product_in_range, first_bad_product}
+use Rattle.percentile.specs.Percentile.{first_bad_product}
 use Rattle.percentile.proofs.first_bad.Goals as goal
 
 pub loop-i-init : goal.loop-i-init

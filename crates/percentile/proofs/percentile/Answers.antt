@@ -1,6 +1,5 @@
 -- `percentile::percentile` meets its contract: a refusal touches nothing, and accepted values are copied to the front and ranked there.
 -- Assumes nothing.
-use borrow.Author.Rules.{rules}
 use mathlib.Core.Path.{◌≡◌, sym, ◌∙◌, ap, ap₂}
 use mathlib.Core.List.{List, ◌++◌}
 use lib.ListN.{length}

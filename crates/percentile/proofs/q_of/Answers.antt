@@ -1,6 +1,5 @@
 -- `percentile::q_of` meets its contract: with at least 100 values both ranks are there, and the second is not below the first.
 -- Assumes nothing.
-use borrow.Author.Rules.{rules}
 use Prim.Native.Nat.{◌-◌, ◌*◌, ◌^◌, ◌≤◌}
 use mathlib.Core.Path.{sym}
 use lib.ListN.{length, get_or}

@@ -1,5 +1,4 @@
 -- `printed::judge_first` meets its contract: the parts that it lends are the first seconds of each lane. Assumes nothing.
-use borrow.Author.Rules.{rules}
 use mathlib.Core.Path.{◌≡◌, subst}
 use lib.ListN.{take}
 use Rattle.base.specs.declared.Plan.{Plan}

@@ -1,5 +1,4 @@
 -- `printed::lines_of` meets its contract: it is the definition's record. Assumes nothing.
-use borrow.Author.Rules.{rules}
 use mathlib.Core.Path.{refl}
 use Rattle.printed.specs.Printed.{lines_of}
 use Rattle.printed.proofs.lines_of.Goals as goal

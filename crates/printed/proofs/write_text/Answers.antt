@@ -1,5 +1,4 @@
 -- `printed::write_text` meets its contract: the stream's refusal, or else what the trip's answer gives. Assumes nothing.
-use borrow.Author.Rules.{rules}
 use mathlib.Core.Path.{◌≡◌, sym, ◌∙◌, ap}
 use native.Mathlib.Omega.{arith}
 use Rattle.base.specs.Refusal.{accepted}

@@ -1,5 +1,4 @@
 -- `printed::write_trip` meets its contract: the one line of a refusal, or the six lines. Assumes nothing.
-use borrow.Author.Rules.{rules}
 use mathlib.Core.Path.{◌≡◌}
 use native.Mathlib.Omega.{arith}
 use Rattle.base.specs.Refusal.{accepted}

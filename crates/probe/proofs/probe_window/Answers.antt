@@ -2,8 +2,7 @@
 use mathlib.Core.Path.{sym, ◌∙◌}
 use mathlib.Core.Bool.{◌&&◌, and-eq-true_iff}
 use native.Mathlib.Omega.{arith}
-use borrow.Author.Tests.{not-true, not-false, leb-true}
-use borrow.Author.Rules.{rules}
+use borrow.Author.Tests.{leb-true}
 use lib.Dec.{leb}
 use Rattle.windows.specs.Inside.{window_most}
 use Rattle.probe.specs.Window.{window_probe}

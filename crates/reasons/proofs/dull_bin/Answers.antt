@@ -1,5 +1,4 @@
 -- `reasons::dull_bin` meets its contract: its three tests are those of the definition. Assumes nothing.
-use borrow.Author.Rules.{rules}
 use mathlib.Core.Path.{refl}
 use Rattle.reasons.specs.Reasons.{holds}
 use Rattle.reasons.proofs.dull_bin.Goals as goal

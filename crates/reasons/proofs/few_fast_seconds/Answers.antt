@@ -3,8 +3,6 @@
 use Rattle.reasons.proofs.few_fast_seconds.Goals as goal
 use mathlib.Core.Path.{refl}
 use Rattle.reasons.specs.Reasons.{holds}
-use Rattle.reasons.proofs.few_fast_seconds.Statement.{statement}
-use Rattle.reasons.proofs.few_fast_seconds.Tie as tie
 
 pub returns : goal.returns
 unfolding holds

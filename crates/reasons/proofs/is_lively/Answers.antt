@@ -1,5 +1,4 @@
 -- `reasons::is_lively` meets its contract: its tests are those of the definition. Assumes nothing.
-use borrow.Author.Rules.{rules}
 use mathlib.Core.Path.{refl}
 use Rattle.reasons.proofs.is_lively.Goals as goal
 

@@ -1,6 +1,5 @@
 -- `reasons::outside_band` meets its contract: its three tests are those of the definition. Assumes nothing.
 use mathlib.Core.Path.{refl}
-use borrow.Author.Rules.{rules}
 use Rattle.reasons.specs.Reasons.{holds}
 use Rattle.reasons.proofs.outside_band.Goals as goal
 

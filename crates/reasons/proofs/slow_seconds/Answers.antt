@@ -1,5 +1,4 @@
 -- `reasons::slow_seconds` meets its contract: its test is that of the definition. Assumes nothing.
-use borrow.Author.Rules.{rules}
 use mathlib.Core.Path.{refl}
 use Rattle.reasons.specs.Reasons.{holds}
 use Rattle.reasons.proofs.slow_seconds.Goals as goal

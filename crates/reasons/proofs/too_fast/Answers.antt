@@ -1,5 +1,4 @@
 -- `reasons::too_fast` meets its contract: its tests are those of the definition. Assumes nothing.
-use borrow.Author.Rules.{rules}
 use mathlib.Core.Path.{refl}
 use Rattle.reasons.specs.Reasons.{holds}
 use Rattle.reasons.proofs.too_fast.Goals as goal

@@ -1,5 +1,4 @@
 -- `reasons::urban_mean` meets its contract: its test is that of the definition. Assumes nothing.
-use borrow.Author.Rules.{rules}
 use mathlib.Core.Path.{refl}
 use Rattle.reasons.specs.Reasons.{holds}
 use Rattle.reasons.proofs.urban_mean.Goals as goal

@@ -1,6 +1,5 @@
 -- `report::judged_length` meets its contract: the digits of the numbers and the bytes besides add up. Assumes nothing.
 use native.Mathlib.Omega.{arith}
-use borrow.Author.Rules.{rules}
 use Rattle.report.proofs.Lengths.{judged-length}
 use Rattle.report.proofs.judged_length.Goals as goal
 

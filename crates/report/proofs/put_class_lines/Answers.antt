@@ -1,10 +1,9 @@
 -- `report::put_class_lines` meets its contract: the three class lines, one behind the other. Assumes nothing.
 use Prim.Native.Nat.{ℕ}
-use mathlib.Core.Path.{refl}
 use mathlib.Core.List.{List}
 use Rattle.report.specs.declared.Judged.{Judged}
 use Rattle.report.specs.Lines.{class_line, class_lines}
-use Rattle.text.proofs.Writing.{both_wrote, room_one, room_two, room_three, wrote_same_length}
+use Rattle.text.proofs.Writing.{both_wrote, room_one, room_two, room_three}
 use Rattle.report.proofs.put_class_lines.Goals as goal
 
 abbrev urban : Judged → List ℕ

@@ -1,10 +1,9 @@
 -- `report::put_count_lines` meets its contract: the seconds, the rest of line 1, and line 2, one behind the other. Assumes nothing.
 use Prim.Native.Nat.{ℕ}
-use mathlib.Core.Path.{refl}
 use mathlib.Core.List.{List}
 use Rattle.report.specs.declared.Judged.{Judged}
 use Rattle.report.specs.Lines.{named, line, count_lines}
-use Rattle.text.proofs.Writing.{both_wrote, room_one, room_two, room_three, wrote_same_length}
+use Rattle.text.proofs.Writing.{both_wrote, room_one, room_two, room_three}
 use Rattle.report.proofs.put_count_lines.Goals as goal
 
 abbrev seconds : Judged → List ℕ

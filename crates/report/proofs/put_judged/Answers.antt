@@ -1,6 +1,6 @@
 -- `report::put_judged` meets its contract: the lines of counts, of classes and of reasons, one behind the other. Assumes nothing.
 use Rattle.report.specs.Lines.{count_lines, class_lines, reasons_line, judged_text}
-use Rattle.text.proofs.Writing.{both_wrote, room_one, room_two, room_three, wrote_same_length}
+use Rattle.text.proofs.Writing.{both_wrote, room_one, room_two, room_three}
 use Rattle.report.proofs.put_judged.Goals as goal
 
 pub returns : goal.returns

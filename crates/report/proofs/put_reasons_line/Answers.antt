@@ -1,8 +1,7 @@
 -- `report::put_reasons_line` meets its contract: the words, four hex digits and the line end, one behind the other. Assumes nothing.
-use mathlib.Core.Path.{refl}
 use Rattle.text.specs.Text.{bytes, hex}
 use Rattle.report.specs.Lines.{reasons_line}
-use Rattle.text.proofs.Writing.{both_wrote, room_one, room_two, room_three, wrote_same_length}
+use Rattle.text.proofs.Writing.{both_wrote, room_one, room_two, room_three}
 use Rattle.report.proofs.put_reasons_line.Goals as goal
 
 pub returns : goal.returns

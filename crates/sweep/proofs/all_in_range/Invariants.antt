@@ -1,14 +1,9 @@
 -- `sweep::all_in_range` meets its contract: it is fine so far exactly where the first mass out of range is not passed. Assumes nothing.
 use Prim.Native.Nat.{◌≤◌, ◌-◌}
-use mathlib.Core.Path.{◌≡◌, sym}
-use native.Mathlib.Omega.{arith}
-use borrow.Author.Tests.{le-leb}
+use mathlib.Core.Path.{◌≡◌}
 use lib.Dec.{leb}
-use lib.ListN.{length, get_or}
-use Rattle.base.specs.Second.{co2_in_range}
+use lib.ListN.{length}
 use Rattle.sweep.specs.Sweep.{first_out_of_range}
-use Rattle.sweep.proofs.Refusals.{fine_so_far}
-use borrow.Author.Rules.{rules}
 use Rattle.sweep.proofs.all_in_range.Given as goal
 
 abbrev pub invariant-loop-i : goal.invariant-loop-i

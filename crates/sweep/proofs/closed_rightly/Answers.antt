@@ -3,7 +3,6 @@ use Prim.Native.Nat.{◌-◌}
 use mathlib.Core.Path.{refl}
 use native.Mathlib.Omega.{arith}
 use borrow.Author.Tests.{eq-eqb, ne_eqb}
-use borrow.Author.Rules.{rules}
 use Rattle.sweep.proofs.closed_rightly.Goals as goal
 
 pub returns-then-dropped-eq0 : goal.returns-then-dropped-eq0

@@ -1,14 +1,9 @@
 -- `sweep::first_out_of_range` meets its contract: each mass passed is in range, so the first that is not is the first bad one. Assumes nothing.
 use Prim.Native.Nat.{ℕ, ◌≤◌, ◌<◌, ◌-◌}
-use mathlib.Core.Path.{◌≡◌, sym}
+use mathlib.Core.Path.{◌≡◌}
 use mathlib.Core.Bool.{true}
-use native.Mathlib.Omega.{arith}
-use borrow.Author.Count.{below_more}
-use borrow.Author.Tests.{le-leb, lt-leb}
 use lib.ListN.{length, get_or}
 use Rattle.base.specs.Second.{co2_in_range}
-use Rattle.base.proofs.FirstBad.{first_bad_is}
-use borrow.Author.Rules.{rules}
 use Rattle.sweep.proofs.first_out_of_range.Given as goal
 
 abbrev pub invariant-loop-i : goal.invariant-loop-i

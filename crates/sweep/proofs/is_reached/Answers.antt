@@ -1,7 +1,6 @@
 -- `sweep::is_reached` meets its contract: each early test finds a state astray, and the last two decide (`proofs/Local.antt`). Assumes nothing.
 use mathlib.Core.Path.{sym, ◌∙◌}
 use native.Mathlib.Omega.{arith}
-use borrow.Author.Rules.{rules}
 use Rattle.sweep.proofs.Prefix.{first_within, part_sum}
 use Rattle.sweep.proofs.Local.{two_tests, too_far, out_of_order, miscounted, misweighed}
 use Rattle.sweep.proofs.is_reached.Goals as goal

@@ -7,7 +7,6 @@ use borrow.Author.Tests.{le-leb, lt-leb, lt-ltb, le-ltb}
 use lib.ListN.{length}
 use Rattle.sweep.specs.Sweep.{move, move_ends}
 use Rattle.sweep.proofs.Moves.{open_window, first_held, mass_fits}
-use borrow.Author.Rules.{rules}
 use Rattle.sweep.proofs.one_move.Goals as goal
 
 pub overflow_add-moves : goal.overflow_add-moves

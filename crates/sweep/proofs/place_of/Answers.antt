@@ -1,6 +1,5 @@
 -- `sweep::place_of` meets its contract: it makes the definition's test. Assumes nothing.
 use borrow.Author.Tests.{eq-eqb, ne_eqb}
-use borrow.Author.Rules.{rules}
 use Rattle.sweep.proofs.place_of.Goals as goal
 
 pub returns-then-refusal-ne-OUT_OF_RANGE : goal.returns-then-refusal-ne-OUT_OF_RANGE

@@ -4,13 +4,12 @@ use mathlib.Core.Path.{◌≡◌, sym, ◌∙◌}
 use mathlib.Core.Bool.{true, and-eq-true_iff}
 use lib.Dec.{leb}
 use lib.ListN.{length}
-use borrow.Author.Tests.{leb-true, leb-false, ltb-true, ltb-false, not-true, not-false}
+use borrow.Author.Tests.{leb-true, leb-false, ltb-true, ltb-false}
 use Rattle.base.specs.Limits.{trip_limit, reference_most}
 use Rattle.base.specs.Plan.{reference_in_range}
 use Rattle.sweep.specs.Sweep.{first_out_of_range}
 use Rattle.sweep.specs.Outcomes.{Outcome}
 use Rattle.sweep.proofs.Refusals.{gives, measured}
-use borrow.Author.Rules.{rules}
 use Rattle.sweep.proofs.refusal_of.Goals as goal
 
 pub returns-then-not-reference_in_range : goal.returns-then-not-reference_in_range

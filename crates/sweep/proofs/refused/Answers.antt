@@ -1,5 +1,4 @@
 -- `sweep::refused` meets its contract: it is the number, its place, and zeros. Assumes nothing.
-use borrow.Author.Rules.{rules}
 use Rattle.sweep.proofs.refused.Goals as goal
 
 pub returns : goal.returns

@@ -1,12 +1,10 @@
 -- `sweep::run` meets its contract: the run from the start is the run of what is left of the budget from where the sweep stands, and a sweep
 -- that is over stays as it is. Assumes nothing.
-use Prim.Native.Nat.{◌+◌, ◌-◌, ◌≤◌, ◌<◌}
+use Prim.Native.Nat.{◌+◌, ◌-◌, ◌<◌}
 use mathlib.Core.Path.{◌≡◌, refl, sym, ◌∙◌, ap}
 use native.Mathlib.Omega.{arith}
-use lib.ListN.{length}
 use Rattle.sweep.specs.declared.SweepState.{SweepState}
 use Rattle.sweep.specs.Sweep.{after_moves, ends_after}
-use Rattle.sweep.specs.Inside.{Ready}
 use Rattle.sweep.proofs.Moves.{after_first, ends_first, over_rests, over_keeps, over-after, over_ends, ready_move, idle, counts_one}
 use Rattle.sweep.proofs.run.Goals as goal
 

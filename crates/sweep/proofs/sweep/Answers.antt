@@ -9,7 +9,6 @@ use Rattle.sweep.specs.declared.SweepState.{SweepState}
 use Rattle.sweep.specs.Sweep.{is_over, after_moves, moves_made, sweep_refusal, run_answer, refused_answer}
 use Rattle.sweep.proofs.Reached.{moves_counted}
 use Rattle.sweep.proofs.Refusals.{passed, ready, refused_answer_lem, accepted_answer, refused_ends, accepted_ends}
-use borrow.Author.Rules.{rules}
 use Rattle.sweep.proofs.sweep.Goals as goal
 
 -- the answer of a run, from the state that it ends in

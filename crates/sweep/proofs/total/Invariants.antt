@@ -1,11 +1,6 @@
 -- `sweep::total` meets its contract: after i steps the first i masses of each half are added (`Halves` of `proofs/Prefix.antt`). Assumes nothing.
-use Prim.Native.Nat.{◌+◌, ◌-◌, ◌/◌, ◌≤◌}
-use mathlib.Core.Path.{◌≡◌}
-use native.Mathlib.Omega.{arith}
-use lib.ListN.{length, get_or}
-use Rattle.base.specs.Words.{sum}
-use Rattle.sweep.proofs.Prefix.{Halves, halves_none, halves_more, halves_most, halves_even, halves_odd}
-use borrow.Author.Rules.{rules}
+use Prim.Native.Nat.{◌-◌}
+use Rattle.sweep.proofs.Prefix.{Halves}
 use Rattle.sweep.proofs.total.Given as goal
 
 abbrev pub invariant-loop-i : goal.invariant-loop-i

@@ -1,5 +1,4 @@
 -- `tally::counts_with` meets its contract: each count is that of the definition. Assumes nothing.
-use borrow.Author.Rules.{rules}
 use mathlib.Core.Path.{refl}
 use Rattle.tally.specs.Inside.{counts_with}
 use Rattle.tally.proofs.counts_with.Goals as goal

@@ -1,5 +1,4 @@
 -- `tally::gap_with` meets its contract: its test is that of the definition. Assumes nothing.
-use borrow.Author.Rules.{rules}
 use borrow.Author.Tests.{eq-eqb, ne_eqb}
 use Rattle.tally.proofs.gap_with.Goals as goal
 

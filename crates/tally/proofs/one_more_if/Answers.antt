@@ -1,5 +1,4 @@
 -- `tally::one_more_if` meets its contract: one more where the test holds, and else the count itself. Assumes nothing.
-use borrow.Author.Rules.{rules}
 use mathlib.Core.Path.{refl}
 use native.Mathlib.Nat.{add-zero}
 use Rattle.tally.proofs.one_more_if.Goals as goal

@@ -1,12 +1,9 @@
 -- `tally::tally_bins` meets its contract: the bins are those of the first i seconds, since a second more changes the tally of its bin.
 -- Assumes nothing.
-use borrow.Author.Rules.{rules}
-use Prim.Native.Nat.{◌-◌, ◌≤◌, ◌<◌}
-use mathlib.Core.Path.{◌≡◌, refl, sym, ◌∙◌, ap}
-use native.Mathlib.Omega.{arith}
+use Prim.Native.Nat.{◌-◌, ◌≤◌}
+use mathlib.Core.Path.{◌≡◌}
 use lib.ListN.{length}
 use Rattle.tally.specs.Inside.{bin_tallies_after}
-use Rattle.tally.proofs.Tallies.{bin-below, bins_none, bins_more, bin_room}
 use Rattle.tally.proofs.tally_bins.Given as goal
 
 abbrev pub invariant-loop-i : goal.invariant-loop-i

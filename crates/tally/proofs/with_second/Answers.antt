@@ -1,7 +1,5 @@
 -- `tally::with_second` meets its contract: a missing second changes nothing, another adds what the definition adds. Assumes nothing.
-use borrow.Author.Rules.{rules}
 use mathlib.Core.Path.{refl, sym, ◌∙◌}
-use borrow.Author.Tests.{not-true, not-false}
 use Rattle.tally.specs.Inside.{with_second}
 use Rattle.tally.proofs.with_second.Goals as goal
 

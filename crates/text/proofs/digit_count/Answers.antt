@@ -1,9 +1,5 @@
 -- `text::digit_count` meets its contract: the digits counted and those of the rest are one more than the number's. Assumes nothing.
-use Prim.Native.Nat.{◌+◌}
-use mathlib.Core.Path.{◌≡◌}
 use native.Mathlib.Omega.{arith}
-use lib.ListN.{length}
-use Rattle.text.specs.Text.{decimal}
 use Rattle.text.proofs.Decimal.{length_one, length_more, length_some, word_length}
 use Rattle.text.proofs.digit_count.Goals as goal
 

@@ -1,10 +1,8 @@
 -- `text::digit_count` meets its contract: the digits counted and those of the rest are one more than the number's. Assumes nothing.
 use Prim.Native.Nat.{◌+◌}
 use mathlib.Core.Path.{◌≡◌}
-use native.Mathlib.Omega.{arith}
 use lib.ListN.{length}
 use Rattle.text.specs.Text.{decimal}
-use Rattle.text.proofs.Decimal.{length_one, length_more, length_some, word_length}
 use Rattle.text.proofs.digit_count.Given as goal
 
 abbrev pub invariant-loop-rest : goal.invariant-loop-rest

@@ -1,7 +1,6 @@
 -- `text::put_hex` meets its contract: the four digits are stored at their places. Assumes nothing.
 use native.Mathlib.Omega.{arith}
 use lib.ListN.{length-set}
-use borrow.Author.Rules.{rules}
 use Rattle.text.specs.Text.{hex}
 use Rattle.text.proofs.Writing.{sets_four}
 use Rattle.text.proofs.put_hex.Goals as goal

@@ -1,5 +1,4 @@
 -- `text::put_line` meets its contract: two named numbers and the line end, one behind the other. Assumes nothing.
-use mathlib.Core.Path.{refl}
 use mathlib.Core.List.{◌++◌}
 use Rattle.text.specs.Text.{bytes, decimal}
 use Rattle.text.proofs.Writing.{both_wrote, room_one, room_two, room_three, wrote_same_length}

@@ -7,7 +7,6 @@ use native.Mathlib.Nat.{le_refl}
 use native.Mathlib.Omega.{arith}
 use lib.ListN.{length, set, length-set}
 use lib.Seq.{sets}
-use borrow.Author.Rules.{rules}
 use Rattle.base.proofs.Store.{sets_append}
 use Rattle.text.specs.Text.{digit, decimal}
 use Rattle.text.proofs.Decimal.{decimal_one, decimal_more, length_one, length_more}

@@ -1,9 +1,7 @@
 -- `text::put_words` meets its contract: what is left of the words is still to be stored from the next place on. Assumes nothing.
-use Prim.Native.Nat.{◌+◌, ◌-◌, ◌≤◌}
-use mathlib.Core.Path.{◌≡◌, refl, sym, ◌∙◌}
+use mathlib.Core.Path.{refl, sym, ◌∙◌}
 use native.Mathlib.Omega.{arith}
-use lib.ListN.{length, drop, length-set}
-use lib.Seq.{sets}
+use lib.ListN.{length-set}
 use Rattle.text.proofs.Writing.{sets_step, sets_end}
 use Rattle.text.proofs.put_words.Goals as goal
 

@@ -11,7 +11,6 @@ use Rattle.trip.specs.Lent.{Lent, lent_of, rooms_in, lent_written}
 use Rattle.trip.proofs.Passed.{Accepted, passed, is_accepted_lem, is_refused, findable, bin_lanes, climb_lanes}
 use Rattle.trip.proofs.Answers.{refused_answer_lem, refused_lent, accepted_answer, accepted_lent}
 use Rattle.trip.proofs.Written.{same_lent}
-use borrow.Author.Rules.{rules}
 use Rattle.trip.proofs.evaluate.Goals as goal
 
 pub returns-then-number-ne-ACCEPTED : goal.returns-then-number-ne-ACCEPTED

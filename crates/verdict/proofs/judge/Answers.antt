@@ -1,6 +1,5 @@
 -- `verdict::judge` meets its contract: sixteen marks, each with a higher bit, make the verdict. Assumes nothing.
 use Rattle.verdict.proofs.Masks.{marks_make_verdict}
-use borrow.Author.Rules.{rules}
 use Rattle.verdict.proofs.judge.Goals as goal
 
 pub returns : goal.returns

@@ -1,5 +1,5 @@
 -- The low words' sum falls below one of them exactly when it turned over. It then lacks 2 ^ 64, the one that the high word gains.
-use Rattle.std.proofs.Common.{arith, rules}
+use Rattle.std.proofs.Common.{arith}
 use Rattle.wide.specs.Inside.{value}
 use Rattle.wide.proofs.sum.Goals as goal
 

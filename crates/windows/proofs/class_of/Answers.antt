@@ -5,7 +5,6 @@ use native.Mathlib.Omega.{arith}
 use borrow.Author.Tests.{lt-ltb, le-ltb}
 use Rattle.windows.specs.Figure.{urban_below, rural_below, motorway_below, class_of}
 use Rattle.windows.proofs.Exact.{mean_below}
-use borrow.Author.Rules.{rules}
 use Rattle.windows.proofs.class_of.Goals as goal
 
 pub returns-then-speeds-seconds : goal.returns-then-speeds-seconds

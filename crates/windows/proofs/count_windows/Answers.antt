@@ -1,13 +1,12 @@
 -- `windows::count_windows` meets its contract: so far it holds the counts of the first seconds passed, each of which has a window, and the rest
 -- have none (`proofs/Counts.antt`). Assumes nothing.
-use Prim.Native.Nat.{◌≤◌, ◌<◌, ◌-◌}
+use Prim.Native.Nat.{◌<◌}
 use mathlib.Core.Path.{◌≡◌, sym, ◌∙◌, ap}
 use native.Mathlib.Omega.{arith}
 use Rattle.sweep.specs.Window.{windows}
 use Rattle.windows.specs.Counts.{window_figure}
 use Rattle.windows.proofs.PlanRanges.{plan_ranges}
 use Rattle.windows.proofs.Counts.{counts_at, counts_none, counts_few, counts_more, counts_all, cell, Turn, turn, turn_seconds, turn_figure}
-use borrow.Author.Rules.{rules}
 use Rattle.windows.proofs.count_windows.Goals as goal
 
 pub loop-first-init : goal.loop-first-init

@@ -5,7 +5,6 @@ use borrow.Author.Tests.{le-leb, lt-leb}
 use Rattle.windows.specs.Figure.{speed_of_e2, curve}
 use Rattle.windows.proofs.Exact.{mean_at_most}
 use Rattle.windows.proofs.PlanRanges.{plan_ranges}
-use borrow.Author.Rules.{rules}
 use Rattle.windows.proofs.curve_at.Goals as goal
 
 pub line_at-requires : goal.line_at-requires

@@ -7,7 +7,6 @@ use lib.Dec.{ltb}
 use Rattle.base.proofs.Products.{product_at_most}
 use Rattle.wide.specs.Inside.{value}
 use Rattle.windows.proofs.Band.{held, band_not_above, band_above}
-use borrow.Author.Rules.{rules}
 use Rattle.windows.proofs.in_band.Goals as goal
 
 -- a part or a multiple of the curve fits a word

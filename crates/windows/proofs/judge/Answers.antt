@@ -4,7 +4,6 @@ use borrow.Author.Tests.{eq-eqb, ne_eqb}
 use Rattle.windows.specs.Figure.{figure_of}
 use Rattle.windows.proofs.Classes.{has_class}
 use Rattle.windows.proofs.PlanRanges.{plan_ranges}
-use borrow.Author.Rules.{rules}
 use Rattle.windows.proofs.judge.Goals as goal
 
 pub returns-then-class-eq-UNCLASSED : goal.returns-then-class-eq-UNCLASSED

@@ -1,5 +1,4 @@
 -- `windows::judge_window` meets its contract: it judges the sums of the window's seconds. Assumes nothing.
-use borrow.Author.Rules.{rules}
 use Rattle.windows.proofs.judge_window.Goals as goal
 
 pub returns : goal.returns

@@ -4,7 +4,6 @@ use native.Mathlib.Omega.{arith}
 use Rattle.base.proofs.Fractions.{is_written}
 use Rattle.windows.specs.Inside.{held_as}
 use Rattle.windows.proofs.Exact.{mean_is, line_is, Bounds, bounds}
-use borrow.Author.Rules.{rules}
 use Rattle.windows.proofs.line_at.Goals as goal
 
 pub overflow_mul-from : goal.overflow_mul-from

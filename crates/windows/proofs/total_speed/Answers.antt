@@ -1,12 +1,11 @@
 -- `windows::total_speed` meets its contract: after i steps the first i speeds of each half are added (`Halves` of the sweep's sums). Assumes nothing.
-use Prim.Native.Nat.{◌+◌, ◌-◌, ◌/◌, ◌≤◌}
+use Prim.Native.Nat.{◌+◌, ◌/◌, ◌≤◌}
 use mathlib.Core.Path.{◌≡◌}
 use native.Mathlib.Omega.{arith}
 use lib.ListN.{length, get_or}
 use Rattle.base.specs.Words.{sum}
 use Rattle.sweep.proofs.Prefix.{Halves, halves_none, halves_more, halves_most, halves_even, halves_odd}
 use Rattle.windows.proofs.Parts.{speeds_fit}
-use borrow.Author.Rules.{rules}
 use Rattle.windows.proofs.total_speed.Goals as goal
 
 pub loop-i-init : goal.loop-i-init

@@ -1,12 +1,6 @@
 -- `windows::total_speed` meets its contract: after i steps the first i speeds of each half are added (`Halves` of the sweep's sums). Assumes nothing.
-use Prim.Native.Nat.{◌+◌, ◌-◌, ◌/◌, ◌≤◌}
-use mathlib.Core.Path.{◌≡◌}
-use native.Mathlib.Omega.{arith}
-use lib.ListN.{length, get_or}
-use Rattle.base.specs.Words.{sum}
-use Rattle.sweep.proofs.Prefix.{Halves, halves_none, halves_more, halves_most, halves_even, halves_odd}
-use Rattle.windows.proofs.Parts.{speeds_fit}
-use borrow.Author.Rules.{rules}
+use Prim.Native.Nat.{◌-◌}
+use Rattle.sweep.proofs.Prefix.{Halves}
 use Rattle.windows.proofs.total_speed.Given as goal
 
 abbrev pub invariant-loop-i : goal.invariant-loop-i

@@ -2,7 +2,6 @@
 use mathlib.Core.Path.{refl}
 use native.Mathlib.Omega.{arith}
 use Rattle.windows.proofs.Classes.{one_most}
-use borrow.Author.Rules.{rules}
 use Rattle.windows.proofs.with_window.Goals as goal
 
 pub overflow_add-result-2 : goal.overflow_add-result-2

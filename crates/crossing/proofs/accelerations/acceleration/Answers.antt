@@ -1,5 +1,4 @@
 -- `crossing::accelerations::acceleration` meets its contract: it is `acceleration::d_of_second`, each case crossing as the definition says. Assumes nothing.
-use borrow.Author.Rules.{rules}
 use Rattle.crossing.specs.Accelerations.{acceleration_across}
 use Rattle.crossing.proofs.accelerations.acceleration.Goals as goal
 

@@ -1,6 +1,5 @@
 -- `crossing::accelerations::percentile` meets its contract: it is `percentile::percentile`, each case crossing as the definition says. Assumes nothing.
 use mathlib.Core.Path.{refl}
-use borrow.Author.Rules.{rules}
 use Rattle.crossing.specs.Accelerations.{percentile_across}
 use Rattle.crossing.proofs.accelerations.percentile.Goals as goal
 

@@ -1,5 +1,4 @@
 -- `crossing::concentration::answer` meets its contract: each case has the paper's number, place and mass. Assumes nothing.
-use borrow.Author.Rules.{rules}
 use Rattle.crossing.specs.Concentration.{answer_of}
 use Rattle.crossing.proofs.concentration.answer.Goals as goal
 

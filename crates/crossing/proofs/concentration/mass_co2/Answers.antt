@@ -1,6 +1,5 @@
 -- `crossing::concentration::mass_co2` meets its contract: a kind above 3 is refused, and otherwise the answer is that of `mass::co2_mass`. Assumes nothing.
 use native.Mathlib.Omega.{arith}
-use borrow.Author.Rules.{rules}
 use Rattle.mass.specs.Mass.{co2_mass}
 use Rattle.crossing.proofs.Readings.{if_unknown_kind, known_kind}
 use Rattle.crossing.proofs.concentration.mass_co2.Goals as goal

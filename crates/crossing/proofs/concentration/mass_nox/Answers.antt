@@ -1,6 +1,5 @@
 -- `crossing::concentration::mass_nox` meets its contract: a kind above 3 is refused, and otherwise the answer is that of `mass::nox_mass`. Assumes nothing.
 use native.Mathlib.Omega.{arith}
-use borrow.Author.Rules.{rules}
 use Rattle.mass.specs.Mass.{nox_mass}
 use Rattle.crossing.proofs.Readings.{if_unknown_kind, known_kind}
 use Rattle.crossing.proofs.concentration.mass_nox.Goals as goal

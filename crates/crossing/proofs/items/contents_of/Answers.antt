@@ -1,5 +1,4 @@
 -- `crossing::items::contents_of` meets its contract: a plan, or a second. Assumes nothing.
-use borrow.Author.Rules.{rules}
 use Rattle.crossing.specs.Items.{contents_of}
 use Rattle.crossing.proofs.items.contents_of.Goals as goal
 

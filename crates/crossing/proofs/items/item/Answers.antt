@@ -1,7 +1,6 @@
 -- `crossing::items::item` meets its contract: it is `item::read_item`, each case crossing as the definitions of `item` say. Assumes nothing.
 use mathlib.Core.Path.{sym, ◌∙◌}
 use native.Mathlib.Omega.{arith}
-use borrow.Author.Rules.{rules}
 use Rattle.item.proofs.Prefix.{whole_some}
 use Rattle.item.specs.Item.{refusal_of, place_of, length_of}
 use Rattle.crossing.specs.Items.{contents_at, front_across}

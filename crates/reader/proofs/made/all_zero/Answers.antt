@@ -1,10 +1,6 @@
 -- `reader::made::all_zero` meets its contract: all were zero if those that are left are. Assumes nothing.
-use Prim.Native.Nat.{◌-◌}
-use mathlib.Core.Path.{◌≡◌, refl, sym, ◌∙◌}
-use lib.ListN.{length, drop}
-use Rattle.reader.specs.Inside.{all_zero}
+use mathlib.Core.Path.{sym, ◌∙◌}
 use Rattle.reader.proofs.Testing.{zeros_end, zeros_on, zeros_broken}
-use borrow.Author.Rules.{rules}
 use Rattle.reader.proofs.made.all_zero.Goals as goal
 
 pub returns-then-bytes-i-ne0 : goal.returns-then-bytes-i-ne0

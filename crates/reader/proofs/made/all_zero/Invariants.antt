@@ -1,10 +1,8 @@
 -- `reader::made::all_zero` meets its contract: all were zero if those that are left are. Assumes nothing.
 use Prim.Native.Nat.{◌-◌}
-use mathlib.Core.Path.{◌≡◌, refl, sym, ◌∙◌}
+use mathlib.Core.Path.{◌≡◌}
 use lib.ListN.{length, drop}
 use Rattle.reader.specs.Inside.{all_zero}
-use Rattle.reader.proofs.Testing.{zeros_end, zeros_on, zeros_broken}
-use borrow.Author.Rules.{rules}
 use Rattle.reader.proofs.made.all_zero.Given as goal
 
 abbrev pub invariant-loop-i : goal.invariant-loop-i

@@ -1,7 +1,6 @@
 -- `reader::made::carry_made` meets its contract: its tests are those of the definition. Assumes nothing.
 use mathlib.Core.Path.{refl}
 use Rattle.reader.specs.Inside.{carry_made}
-use borrow.Author.Rules.{rules}
 use Rattle.reader.proofs.made.carry_made.Goals as goal
 
 pub returns : goal.returns

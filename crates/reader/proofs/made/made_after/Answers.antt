@@ -7,7 +7,6 @@ use Rattle.item.specs.Format.{plan_kind, item_length}
 use borrow.Author.Tests.{le-leb, lt-leb}
 use Rattle.reader.specs.Inside.{can_end, made_after}
 use Rattle.reader.proofs.Testing.{middle_false, middle_true}
-use borrow.Author.Rules.{rules}
 use Rattle.reader.proofs.made.made_after.Goals as goal
 
 pub returns-then-seconds-gt-TRIP : goal.returns-then-seconds-gt-TRIP

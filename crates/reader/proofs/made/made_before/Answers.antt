@@ -1,6 +1,5 @@
 -- `reader::made::made_before` meets its contract: its tests are those of the definition. Assumes nothing.
 use Rattle.reader.specs.Inside.{made_before}
-use borrow.Author.Rules.{rules}
 use Rattle.reader.proofs.made.made_before.Goals as goal
 
 pub returns : goal.returns

@@ -1,5 +1,4 @@
 -- `reader::made::number_made` meets its contract, before the plan and after it. Assumes nothing.
-use borrow.Author.Rules.{rules}
 use Rattle.reader.proofs.made.number_made.Goals as goal
 
 pub returns-then-plan_before : goal.returns-then-plan_before

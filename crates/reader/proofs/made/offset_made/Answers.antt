@@ -2,7 +2,6 @@
 use borrow.Author.Tests.{le-leb, lt-leb}
 use Rattle.item.proofs.Table.{plan_length}
 use Rattle.reader.proofs.Offsets.{ends_told}
-use borrow.Author.Rules.{rules}
 use Rattle.reader.proofs.made.offset_made.Goals as goal
 
 pub returns-then-at-least : goal.returns-then-at-least

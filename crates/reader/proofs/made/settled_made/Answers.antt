@@ -1,7 +1,6 @@
 -- `reader::made::settled_made` meets its contract: its tests are those of the definition. Assumes nothing.
 use mathlib.Core.Path.{refl}
 use Rattle.reader.specs.Inside.{settled_made}
-use borrow.Author.Rules.{rules}
 use Rattle.reader.proofs.made.settled_made.Goals as goal
 
 pub returns : goal.returns

@@ -1,7 +1,6 @@
 -- `reader::made::standing_made` meets its contract, before the plan and after it. Assumes nothing.
 use mathlib.Core.Path.{sym, ◌∙◌}
 use Rattle.reader.proofs.Testing.{before_plan, after_plan}
-use borrow.Author.Rules.{rules}
 use Rattle.reader.proofs.made.standing_made.Goals as goal
 
 pub returns-then-plan_before : goal.returns-then-plan_before

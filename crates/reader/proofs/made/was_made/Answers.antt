@@ -1,8 +1,6 @@
 -- `reader::made::was_made` meets its contract: what was read first, then what is held or what settled it. Assumes nothing.
 use mathlib.Core.Path.{sym, ◌∙◌}
-use borrow.Author.Tests.{not-true, not-false}
 use Rattle.reader.proofs.Testing.{standing_bad, made_open, made_settled}
-use borrow.Author.Rules.{rules}
 use Rattle.reader.proofs.made.was_made.Goals as goal
 
 pub returns-then-not-standing_made : goal.returns-then-not-standing_made

@@ -1,5 +1,4 @@
 -- `conclusion::conclude` meets its contract: it is the definition's record, and the climb is one that the verdict can judge. Assumes nothing.
-use borrow.Author.Rules.{rules}
 use mathlib.Core.Path.{refl}
 use Rattle.climb.proofs.Steps.{climb_at_most}
 use Rattle.trip.specs.Trip.{figures_from, answer_from}

@@ -1,5 +1,4 @@
 -- `conclusion::figures_from` meets its contract: what the calls give is the definition's record. Assumes nothing.
-use borrow.Author.Rules.{rules}
 use mathlib.Core.Path.{refl}
 use Rattle.trip.specs.Trip.{figures_from}
 use Rattle.trip.proofs.conclusion.figures_from.Goals as goal

@@ -1,7 +1,7 @@
 -- `refusals::fault_of` meets its contract: its tests are those of the definition, in the same order. Assumes nothing.
 use mathlib.Core.Path.{◌≡◌, sym, ◌∙◌, ap}
 use mathlib.Core.Bool.{true, false}
-use borrow.Author.Tests.{not-true, not-false, lt-ltb, le-ltb}
+use borrow.Author.Tests.{lt-ltb, le-ltb}
 use lib.Dec.{ltb}
 use Rattle.base.specs.Plan.{plan_in_range}
 use Rattle.base.specs.Refusal.{out_of_range, fault}
@@ -10,7 +10,6 @@ use Rattle.second.specs.Lanes.{Lanes, lanes_of, seconds_in, lanes_agree, first_b
 use Rattle.second.proofs.Lanes.{agree}
 use Rattle.trip.specs.Refusals.{too_short}
 use Rattle.trip.proofs.Chain.{gives_plan, gives_differ, gives_many, gives_short, gives_bad, gives_none, gives_accepted}
-use borrow.Author.Rules.{rules}
 use Rattle.trip.proofs.refusals.fault_of.Goals as goal
 
 pub returns-then-not-plan_in_range : goal.returns-then-not-plan_in_range

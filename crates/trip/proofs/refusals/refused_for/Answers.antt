@@ -3,8 +3,6 @@
 use Rattle.trip.proofs.refusals.refused_for.Goals as goal
 use mathlib.Core.Path.{refl}
 use Rattle.trip.specs.Trip.{refused}
-use Rattle.trip.proofs.refusals.refused_for.Statement.{statement}
-use Rattle.trip.proofs.refusals.refused_for.Tie as tie
 
 pub returns : goal.returns
 unfolding refused

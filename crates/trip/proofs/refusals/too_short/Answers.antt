@@ -3,8 +3,6 @@
 use Rattle.trip.proofs.refusals.too_short.Goals as goal
 use mathlib.Core.Path.{refl}
 use Rattle.trip.specs.Refusals.{too_short}
-use Rattle.trip.proofs.refusals.too_short.Statement.{statement}
-use Rattle.trip.proofs.refusals.too_short.Tie as tie
 
 pub returns : goal.returns
 unfolding too_short
