@@ -5,7 +5,7 @@
 pub mod accelerations;
 pub mod concentration;
 pub mod feeding;
-pub mod reasons;
+pub mod masks;
 pub mod release;
 pub mod streams;
 pub mod sweeping;

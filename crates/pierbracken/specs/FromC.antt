@@ -20,7 +20,7 @@ use Rattle.capi.proofs.sweeping.pb_sweep.Reads as pb_sweep_call
 use Rattle.capi.proofs.accelerations.pb_acceleration.Reads as pb_acceleration_call
 use Rattle.capi.proofs.accelerations.pb_percentile.Reads as pb_percentile_call
 use Rattle.capi.proofs.trips.pb_evaluate.Reads as pb_evaluate_call
-use Rattle.capi.proofs.reasons.pb_has_reason.Reads as pb_has_reason_call
+use Rattle.capi.proofs.masks.pb_has_reason.Reads as pb_has_reason_call
 use Rattle.pierbracken.specs.Calls.{Answers, Gives, lanes_before, index_behind, ReadsStream, WritesStream, Starts, Feeds, Ends, Sweeps, Evaluates, TestsReason}
 
 -- ---- the calls that answer as those of the library do, in the same words

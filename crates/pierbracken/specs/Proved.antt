@@ -57,8 +57,8 @@ use Rattle.capi.proofs.accelerations.pb_percentile.Statement as pb_percentile_is
 use Rattle.capi.proofs.accelerations.pb_percentile.Met as pb_percentile_met
 use Rattle.capi.proofs.trips.pb_evaluate.Statement as pb_evaluate_is
 use Rattle.capi.proofs.trips.pb_evaluate.Met as pb_evaluate_met
-use Rattle.capi.proofs.reasons.pb_has_reason.Statement as pb_has_reason_is
-use Rattle.capi.proofs.reasons.pb_has_reason.Met as pb_has_reason_met
+use Rattle.capi.proofs.masks.pb_has_reason.Statement as pb_has_reason_is
+use Rattle.capi.proofs.masks.pb_has_reason.Met as pb_has_reason_met
 
 -- `statement` says of the code of a call that it meets the contract in `src/`, in every model of memory
 module _ {M : Type 1} where

@@ -1,4 +1,4 @@
--- Demand 1: every public call refuses bad input by the paper's numbers, in the paper's order: each number exactly when its condition holds and none before it does. Those of the writer stand in `Writing`.
+-- Demand 1: every public call refuses bad input by the paper's numbers, in the paper's order: each number exactly when its condition holds and none before it does. The calls themselves have their theorems in `proofs/RefusedExactlyWhen`, in the words of this file; those of the writer stand in `Writing`.
 use Rattle.std.specs.Prelude.{ℕ, ◌<◌, ◌≡◌, false, List, ◌↔◌, length}
 use Rattle.std.proofs.Common.{sym, ◌∙◌}
 use borrow.Fn.Kinds as contract
@@ -143,89 +143,25 @@ pub of_call :
 of_call call {look = look} law =
     record { exactly = λ κs inputs x e p. through (λ i. look κs ((call.means κs inputs x e p).0 i)) (law κs inputs) }
 
--- the mass of a second, in the library a reading, in C a kind and a value
-pub co2_mass_refused : RefusedAs co2_mass_call.Post (λ κs x. x) (λ κs a. mass_outcomes.Outcome mg_in_a_gram co2_most a.0 a.1.0)
-co2_mass_refused = of_call calls.co2_mass_lem (λ κs a. co2_mass_lem a.0 a.1.0)
-
-pub nox_mass_refused : RefusedAs nox_mass_call.Post (λ κs x. x) (λ κs a. mass_outcomes.Outcome µg_in_a_gram nox_most a.0 a.1.0)
-nox_mass_refused = of_call calls.nox_mass_lem (λ κs a. nox_mass_lem a.0 a.1.0)
-
-pub pb_mass_co2_refused : RefusedAs pb_mass_co2_call.Post (λ κs x. x.refusal) (λ κs a. crossing_outcomes.Outcome mg_in_a_gram co2_most a.0 a.1.0 a.1.1.0)
-unfolding co2_mass
-pb_mass_co2_refused = of_call from_c.pb_mass_co2 (λ κs a. crossing.mass_exactly mg_in_a_gram co2_most a.0 a.1.0 a.1.1.0)
-
-pub pb_mass_nox_refused : RefusedAs pb_mass_nox_call.Post (λ κs x. x.refusal) (λ κs a. crossing_outcomes.Outcome µg_in_a_gram nox_most a.0 a.1.0 a.1.1.0)
-unfolding nox_mass
-pb_mass_nox_refused = of_call from_c.pb_mass_nox (λ κs a. crossing.mass_exactly µg_in_a_gram nox_most a.0 a.1.0 a.1.1.0)
-
--- one item
-pub item_refused : RefusedAs read_item_call.Post (λ κs x. refusal_of x) (λ κs a. item_outcomes.Outcome a.0.now)
-item_refused = of_call calls.read_item (λ κs a. one_item a.0.now)
-
-pub pb_item_refused : RefusedAs pb_item_call.Post (λ κs x. x.refusal) (λ κs a. item_outcomes.Outcome a.0.now)
-unfolding front_across
-pb_item_refused = of_call from_c.pb_item (λ κs a. one_item a.0.now)
-
 -- a whole stream
-abbrev StreamRefused : contract.Out stream_lanes stream_kinds.ps stream_kinds.r → Type 0
+abbrev pub StreamRefused : contract.Out stream_lanes stream_kinds.ps stream_kinds.r → Type 0
 StreamRefused allows =
     RefusedAs allows (λ κs x. x) (λ κs a. stream_outcomes.Outcome (room_in (calls.lanes_to_fill κs a)) a.0.now)
 
-pub stream_refused : StreamRefused read_stream_call.Post
-stream_refused = of_call calls.read_stream (λ κs a. whole_stream _ a.0.now)
-
-pub pb_read_refused : StreamRefused pb_read_call.Post
-pb_read_refused = of_call from_c.pb_read (λ κs a. whole_stream _ a.0.now)
-
 -- the sweep
-abbrev SweepRefused : contract.Out 2 sweep_kinds.ps sweep_kinds.r → Type 0
+abbrev pub SweepRefused : contract.Out 2 sweep_kinds.ps sweep_kinds.r → Type 0
 SweepRefused allows =
     RefusedAs allows (λ κs x. x.refusal) (λ κs a. sweep_outcomes.Outcome a.0 a.1.0.now (length a.1.1.0.now) a.1.1.1.0)
 
-pub sweep_refused : SweepRefused sweep_call.Post
-sweep_refused = of_call calls.sweep (λ κs a. sweeping a.0 a.1.0.now (length a.1.1.0.now) a.1.1.1.0 a.1.1.1.1.0)
-
-pub pb_sweep_refused : SweepRefused pb_sweep_call.Post
-pb_sweep_refused = of_call from_c.pb_sweep (λ κs a. sweeping a.0 a.1.0.now (length a.1.1.0.now) a.1.1.1.0 a.1.1.1.1.0)
-
--- D of one second
-pub d_refused : RefusedAs d_of_second_call.Post (λ κs x. d.fault_in x) (λ κs a. d_outcomes.Outcome (lanes_before κs a) (index_behind κs a))
-d_refused = of_call calls.d_of_second (λ κs a. d_of_second (lanes_before κs a) (index_behind κs a))
-
-pub pb_acceleration_refused : RefusedAs pb_acceleration_call.Post (λ κs x. fault x.refusal x.place) (λ κs a. d_outcomes.Outcome (lanes_before κs a) (index_behind κs a))
-pb_acceleration_refused = of_call from_c.pb_acceleration (λ κs a. through (crossing.acceleration_fault _) (d_of_second (lanes_before κs a) (index_behind κs a)))
-
--- the percentile
-pub percentile_refused : RefusedAs percentile_call.Post (λ κs x. percentiles.fault_in x) (λ κs a. percentile_outcomes.Outcome a.0.now (length a.1.0.now))
-percentile_refused = of_call calls.percentile (λ κs a. ranking a.0.now (length a.1.0.now))
-
-pub pb_percentile_refused : RefusedAs pb_percentile_call.Post (λ κs x. fault x.refusal x.place) (λ κs a. percentile_outcomes.Outcome a.0.now (length a.1.0.now))
-pb_percentile_refused = of_call from_c.pb_percentile (λ κs a. through (crossing.percentile_fault _) (ranking a.0.now (length a.1.0.now)))
-
 -- a trip
-abbrev TripRefused : contract.Out evaluation_lanes trip_kinds.ps trip_kinds.r → Type 0
+abbrev pub TripRefused : contract.Out evaluation_lanes trip_kinds.ps trip_kinds.r → Type 0
 TripRefused allows =
     RefusedAs allows (λ κs x. fault x.refusal x.place) (λ κs a. trip_outcomes.Given a.0 (trip_in κs a) (rooms_in (lent_in κs a)))
 
-pub trip_refused : TripRefused evaluate_call.Post
-trip_refused = of_call calls.evaluate (λ κs a. whole_trip a.0 _ _)
-
-pub pb_evaluate_refused : TripRefused pb_evaluate_call.Post
-pb_evaluate_refused = of_call from_c.pb_evaluate (λ κs a. whole_trip a.0 _ _)
-
--- ---- a text is answered by 0 exactly when the buffer is too short for it
-abbrev TextRefused : {L : Type 0} {In Exit : L → Type 0} → ((κs : L) → In κs → ℕ → Exit κs → Type 0) → ((κs : L) → In κs → List ℕ) → ((κs : L) → In κs → List ℕ) → Type 0
+-- a text is answered by 0 exactly when the buffer is too short for it
+abbrev pub TextRefused : {L : Type 0} {In Exit : L → Type 0} → ((κs : L) → In κs → ℕ → Exit κs → Type 0) → ((κs : L) → In κs → List ℕ) → ((κs : L) → In κs → List ℕ) → Type 0
 TextRefused {L} {In} {Exit} allows text buffer =
     (κs : L) (inputs : In κs) (x : ℕ) (e : Exit κs) → allows κs inputs x e → (x ≡ 0) ↔ (length (buffer κs inputs) < length (text κs inputs))
-
-pub report_refused : TextRefused report_call.Post (λ κs a. judged_text a.0) (λ κs a. a.1.0.now)
-report_refused κs a x e p = rw p.0 (fitting.zero_exactly (judged_text a.0) a.1.0.now (texts.judged_some a.0))
-
-pub report_refusal_refused : TextRefused report_refusal_call.Post (λ κs a. refusal_text a.0 a.1.0) (λ κs a. a.1.1.0.now)
-report_refusal_refused κs a x e p = rw p.0 (fitting.zero_exactly (refusal_text a.0 a.1.0) a.1.1.0.now (texts.refusal_some a.0 a.1.0))
-
-pub write_text_refused : TextRefused write_text_call.Post text_printed print_buffer
-write_text_refused κs a x e p = rw p.0 (fitting.zero_exactly _ _ (printed.text_some a.0 _ _))
 
 -- ---- "A refusal returns its number and a place .., with all other results zero": the stream's `Outcome` says so of its own, and the
 -- answers by cases of the mass, of D and of the percentile have nothing beside a refusal

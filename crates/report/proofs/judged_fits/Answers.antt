@@ -8,13 +8,11 @@ use borrow.Author.Rules.{rules}
 use borrow.Author.Tests.{le-leb}
 use Rattle.report.specs.Lines.{judged_text}
 use Rattle.report.proofs.Lengths.{Words, judged-longest}
-use Rattle.report.proofs.judged_fits.Statement.{statement}
-use Rattle.report.proofs.judged_fits.Tie as tie
+use Rattle.report.proofs.judged_fits.Goals as goal
 
--- the numbers of the lines are words of 64 bits
-words : (c : tie.Start) → Words c.args.trip
-words c =
-    record {
+pub returns-then-room-ge-LONGEST_TEXT : goal.returns-then-room-ge-LONGEST_TEXT
+returns-then-room-ge-LONGEST_TEXT c =
+    let words : Words c.args.trip = record {
       seconds = omega arith;
       missing = omega arith;
       kept = omega arith;
@@ -23,23 +21,10 @@ words c =
       urban = record { windows = omega arith; inside = omega arith };
       rural = record { windows = omega arith; inside = omega arith };
       motorway = record { windows = omega arith; inside = omega arith };
-    }
-
-returns : tie.Need-returns-then-room-ge-LONGEST_TEXT
-returns c =
-    let room : length (judged_text c.before.args.trip) ≤ c.before.args.room = omega (arith, judged-longest c.before.args.trip (words c.before)) in
+    } in
+    let room : length (judged_text c.args.trip) ≤ c.args.room = omega (arith, judged-longest c.args.trip words) in
     sym (le-leb _ _ room)
 
-judged-length_requires : tie.Need-judged_length-requires
-judged-length_requires c κs = search rules
-
-returns_2 : tie.Need-returns
-returns_2 c = ap (λ (n : ℕ). leb n c.before.before.args.room) c.judged_length.ensures
-
-pub judged_fits_spec : {M : Type 1} → statement M
-judged_fits_spec =
-    tie.close
-    (tie.spec
-    returns
-    judged-length_requires
-    returns_2)
+pub returns : goal.returns
+returns c =
+    ap (λ (n : ℕ). leb n c.args.room) c.judged_length.ensures

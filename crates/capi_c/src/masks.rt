@@ -3,12 +3,12 @@
 ghost use Rattle.std.specs.Prelude.{◌≡◌};
 ghost use Rattle.verdict.specs.Verdict.{has_any};
 
-use capi::reasons;
+use capi::masks;
 
 // Whether a verdict has any of the reasons of a mask.
 #[unsafe(no_mangle)]
 pub extern "C" fn pb_has_reason(verdict: u16, mask: u16) -> bool
     ensures { result ≡ has_any verdict mask }
 {
-    reasons::pb_has_reason(verdict, mask)
+    masks::pb_has_reason(verdict, mask)
 }
