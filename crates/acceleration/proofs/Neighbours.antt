@@ -1,54 +1,54 @@
 -- Laws of the second before and the second after, inside the trip and at its ends. Assumes nothing.
-use Prim.Native.Nat.{ℕ, zero, suc, _+_, _-_, _≤_, _<_}
-use mathlib.Core.Path.{_≡_, refl, ap}
+use Prim.Native.Nat.{ℕ, zero, suc, ◌+◌, ◌-◌, ◌≤◌, ◌<◌}
+use mathlib.Core.Path.{◌≡◌, refl, ap}
 use mathlib.Core.Bool.{true}
-use mathlib.Core.List.{List, [], _∷_}
+use mathlib.Core.List.{List, [], ◌∷◌}
 use native.Mathlib.Omega.{arith}
-use lib.ListN.{length, getD, List·getD-eq-default}
-use Rattle·base.specs.Second.{measured}
-use Rattle·second.specs.Row.{hasValues}
-use Rattle·acceleration·specs.specs.D.{speedBefore, speedAfter, hasBefore, hasAfter}
+use lib.ListN.{length, get_or, get_or-eq_default}
+use Rattle.base.specs.Second.{measured}
+use Rattle.second.specs.Row.{has_values}
+use Rattle.acceleration.specs.D.{speed_before, speed_after, has_before, has_after}
 
 -- inside a list it does not matter what is read outside
-getD-inside : (l : List ℕ) (i d e : ℕ) → i < length l → getD l i d ≡ getD l i e
-getD-inside [] i d e h = absurd (omega arith)
-getD-inside (x ∷ l) zero d e h = refl
-getD-inside (x ∷ l) (suc i) d e h = getD-inside l i d e (omega arith)
+get_d_inside : (l : List ℕ) (i d e : ℕ) → i < length l → get_or l i d ≡ get_or l i e
+get_d_inside [] i d e h = absurd (omega arith)
+get_d_inside (x ∷ l) zero d e h = refl
+get_d_inside (x ∷ l) (suc i) d e h = get_d_inside l i d e (omega arith)
 
 -- an index above 0 is one more than its predecessor
-one-up : (i : ℕ) → 0 < i → i ≡ suc (i - 1)
-one-up i h = omega arith
+one_up : (i : ℕ) → 0 < i → i ≡ suc (i - 1)
+one_up i h = omega arith
 
 module _ (speeds : List ℕ) (i : ℕ) where
-  pub speed-before-first : i ≡ 0 → speedBefore speeds i ≡ 0
-  unfolding speedBefore
-  speed-before-first e = rw e refl
+  pub speed_before_first : i ≡ 0 → speed_before speeds i ≡ 0
+  unfolding speed_before
+  speed_before_first e = rw e refl
 
-  pub speed-before : 0 < i → speedBefore speeds i ≡ getD speeds (i - 1) 0
-  unfolding speedBefore
-  speed-before h = ap (speedBefore speeds) (one-up i h)
+  pub speed_before_lem : 0 < i → speed_before speeds i ≡ get_or speeds (i - 1) 0
+  unfolding speed_before
+  speed_before_lem h = ap (speed_before speeds) (one_up i h)
 
-  pub speed-after : speedAfter speeds i ≡ getD speeds (i + 1) 0
-  unfolding speedAfter
-  speed-after = refl
+  pub speed_after_lem : speed_after speeds i ≡ get_or speeds (i + 1) 0
+  unfolding speed_after
+  speed_after_lem = refl
 
-  pub speed-after-last : length speeds ≤ i + 1 → speedAfter speeds i ≡ 0
-  unfolding speedAfter
-  speed-after-last h = List·getD-eq-default speeds 0 h
+  pub speed_after_last : length speeds ≤ i + 1 → speed_after speeds i ≡ 0
+  unfolding speed_after
+  speed_after_last h = get_or-eq_default speeds 0 h
 
 module _ (states : List ℕ) (i : ℕ) where
-  pub has-before-first : i ≡ 0 → hasBefore states i ≡ true
-  unfolding hasBefore
-  has-before-first e = rw e refl
+  pub has_before_first : i ≡ 0 → has_before states i ≡ true
+  unfolding has_before
+  has_before_first e = rw e refl
 
-  pub has-before : 0 < i → hasBefore states i ≡ hasValues (getD states (i - 1) 0)
-  unfolding hasBefore
-  has-before h = ap (hasBefore states) (one-up i h)
+  pub has_before_lem : 0 < i → has_before states i ≡ has_values (get_or states (i - 1) 0)
+  unfolding has_before
+  has_before_lem h = ap (has_before states) (one_up i h)
 
-  pub has-after : i + 1 < length states → hasAfter states i ≡ hasValues (getD states (i + 1) 0)
-  unfolding hasAfter
-  has-after h = ap hasValues (getD-inside states (i + 1) measured 0 h)
+  pub has_after_lem : i + 1 < length states → has_after states i ≡ has_values (get_or states (i + 1) 0)
+  unfolding has_after
+  has_after_lem h = ap has_values (get_d_inside states (i + 1) measured 0 h)
 
-  pub has-after-last : length states ≤ i + 1 → hasAfter states i ≡ true
-  unfolding hasAfter hasValues
-  has-after-last h = rw (List·getD-eq-default states measured h) refl
+  pub has_after_last : length states ≤ i + 1 → has_after states i ≡ true
+  unfolding has_after has_values
+  has_after_last h = rw (get_or-eq_default states measured h) refl

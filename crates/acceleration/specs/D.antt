@@ -1,50 +1,45 @@
 -- D of a second (Appendix 7a). Seconds are counted from 0.
-use Prim.Native.Nat.{ℕ, zero, suc, _+_}
-use mathlib.Core.Bool.{Bool, true, not, _&&_, _||_}
-use mathlib.Core.List.{List}
-use lib.Dec.{leb, ltb, eqb}
-use lib.IntN.{ℤ, pos, negsuc, _-ℤ_}
-use lib.ListN.{getD}
-use Rattle·base.specs.Refusal.{accepted, lanesDiffer, tooManyValues, outOfRange, noSecond, fault}
-use Rattle·base.specs.Second.{measured, tooMany}
-use Rattle·base.specs.Words.{pick}
-use Rattle·base.specs.declared.Fault.{Fault}
-use Rattle·second.specs.Row.{hasValues}
-use Rattle·second.specs.Lanes.{Lanes, secondsIn, lanesAgree, firstBadSecond, noneHasValues}
-use Rattle·acceleration·specs.specs.declared.Acceleration.{Acceleration}
-use Rattle·acceleration·specs.specs.declared.Acceleration.the-variants.{Rising, Falling, None, Refused}
+use Rattle.std.specs.Prelude.{ℕ, zero, suc, ◌+◌, Bool, true, not, ◌&&◌, ◌||◌, List, leb, ltb, eqb, ℤ, pos, negsuc, ◌-ℤ◌, get_or}
+use Rattle.base.specs.Refusal.{accepted, lanes_differ, too_many_values, out_of_range, no_second, fault}
+use Rattle.base.specs.Second.{measured, too_many}
+use Rattle.base.specs.Words.{pick}
+use Rattle.base.specs.declared.Fault.{Fault}
+use Rattle.second.specs.Row.{has_values}
+use Rattle.second.specs.Lanes.{Lanes, seconds_in, lanes_agree, first_bad_second, none_has_values}
+use Rattle.acceleration.specs.declared.Acceleration.{Acceleration}
+use Rattle.acceleration.specs.declared.Acceleration.TheVariants.{Rising, Falling, None, Refused}
 
 -- "before the first and after the last second the speed is 0"
-unfoldable pub speedBefore : List ℕ → ℕ → ℕ
-speedBefore speeds zero = 0
-speedBefore speeds (suc i) = getD speeds i 0
+unfoldable pub speed_before : List ℕ → ℕ → ℕ
+speed_before speeds zero = 0
+speed_before speeds (suc i) = get_or speeds i 0
 
-unfoldable pub speedAfter : List ℕ → ℕ → ℕ
-speedAfter speeds i = getD speeds (i + 1) 0
+unfoldable pub speed_after : List ℕ → ℕ → ℕ
+speed_after speeds i = get_or speeds (i + 1) 0
 
 -- "D is the next speed minus the previous"
-unfoldable pub dOf : List ℕ → ℕ → ℤ
-dOf speeds i = pos (speedAfter speeds i) -ℤ pos (speedBefore speeds i)
+unfoldable pub d_of : List ℕ → ℕ → ℤ
+d_of speeds i = pos (speed_after speeds i) -ℤ pos (speed_before speeds i)
 
 -- whether the second before, or after, is not missing; outside the trip none is
-unfoldable pub hasBefore : List ℕ → ℕ → Bool
-hasBefore states zero = true
-hasBefore states (suc i) = hasValues (getD states i 0)
+unfoldable pub has_before : List ℕ → ℕ → Bool
+has_before states zero = true
+has_before states (suc i) = has_values (get_or states i 0)
 
-unfoldable pub hasAfter : List ℕ → ℕ → Bool
-hasAfter states i = hasValues (getD states (i + 1) measured)
+unfoldable pub has_after : List ℕ → ℕ → Bool
+has_after states i = has_values (get_or states (i + 1) measured)
 
 -- "A missing second has no D, nor has one beside it."
-unfoldable pub hasD : List ℕ → ℕ → Bool
-hasD states i = hasValues (getD states i 0) && hasBefore states i && hasAfter states i
+unfoldable pub has_d : List ℕ → ℕ → Bool
+has_d states i = has_values (get_or states i 0) && has_before states i && has_after states i
 
 -- refusals "1, 2, 3, 4": the number and the place
-unfoldable pub faultOf : Lanes → ℕ → Fault
-faultOf trip i =
-    pick (not (lanesAgree trip)) (fault lanesDiffer 0)
-    (pick (tooMany (secondsIn trip)) (fault tooManyValues 0)
-    (pick (ltb (firstBadSecond trip) (secondsIn trip)) (fault outOfRange (firstBadSecond trip))
-    (pick (noneHasValues (trip .states) || leb (secondsIn trip) i) (fault noSecond 0)
+unfoldable pub fault_of : Lanes → ℕ → Fault
+fault_of trip i =
+    pick (not (lanes_agree trip)) (fault lanes_differ 0)
+    (pick (too_many (seconds_in trip)) (fault too_many_values 0)
+    (pick (ltb (first_bad_second trip) (seconds_in trip)) (fault out_of_range (first_bad_second trip))
+    (pick (none_has_values trip.states || leb (seconds_in trip) i) (fault no_second 0)
     (fault accepted 0))))
 
 -- a number as a case of the answer
@@ -53,13 +48,13 @@ numbered (pos d) = Rising d
 numbered (negsuc d) = Falling (suc d)
 
 -- "the D of one second of a trip's lanes by index from 0, or that it has none"
-unfoldable pub accelerationOf : Lanes → ℕ → Acceleration
-accelerationOf trip i =
-    pick (eqb (faultOf trip i .number) accepted) (pick (hasD (trip .states) i) (numbered (dOf (trip .speeds) i)) None) (Refused (faultOf trip i))
+unfoldable pub acceleration_of : Lanes → ℕ → Acceleration
+acceleration_of trip i =
+    pick (eqb (fault_of trip i).number accepted) (pick (has_d trip.states i) (numbered (d_of trip.speeds i)) None) (Refused (fault_of trip i))
 
 -- the number of refusal and the place of an answer
-unfoldable pub faultIn : Acceleration → Fault
-faultIn (Refused given) = given
-faultIn (Rising d) = fault accepted 0
-faultIn (Falling d) = fault accepted 0
-faultIn None = fault accepted 0
+unfoldable pub fault_in : Acceleration → Fault
+fault_in (Refused given) = given
+fault_in (Rising d) = fault accepted 0
+fault_in (Falling d) = fault accepted 0
+fault_in None = fault accepted 0

@@ -1,20 +1,19 @@
 -- When each number of D of one second is given: "(1, 2, 3, 4)".
-use Prim.Native.Nat.{ℕ, _≤_, _<_}
-use mathlib.Core.Logic.{_⊎_}
-use Rattle·base.specs.Refusal.{accepted, lanesDiffer, tooManyValues, outOfRange, noSecond, fault}
-use Rattle·base.specs.Limits.{tripLimit}
-use Rattle·base.specs.declared.Fault.{Fault}
-use Rattle·second.specs.Lanes.{Lanes, secondsIn}
-use Rattle·second.specs.Facts.{SameLengths, FirstBadAt, AllInRange, NoSecond, SomeSecond}
+use Rattle.std.specs.Prelude.{ℕ, ◌≤◌, ◌<◌, ◌⊎◌}
+use Rattle.base.specs.Refusal.{accepted, lanes_differ, too_many_values, out_of_range, no_second, fault}
+use Rattle.base.specs.Limits.{trip_limit}
+use Rattle.base.specs.declared.Fault.{Fault}
+use Rattle.second.specs.Lanes.{Lanes, seconds_in}
+use Rattle.second.specs.Facts.{SameLengths, FirstBadAt, AllInRange, NoSecond, SomeSecond}
 
 module _ (trip : Lanes) (i : ℕ) where
   abbrev n : ℕ
-  n = secondsIn trip
+  n = seconds_in trip
 
   -- what may be refused, each with its number, its place and what holds then, in the order 1, 2, 3, 4
   pub data Outcome : Fault → Type 0 where
-    lanes-differ : (SameLengths trip → ⊥) → Outcome (fault lanesDiffer 0)
-    too-many : SameLengths trip → tripLimit < n → Outcome (fault tooManyValues 0)
-    out-of-range : SameLengths trip → n ≤ tripLimit → (bad : ℕ) → FirstBadAt trip bad → Outcome (fault outOfRange bad)
-    no-second : SameLengths trip → n ≤ tripLimit → AllInRange trip → NoSecond trip ⊎ (n ≤ i) → Outcome (fault noSecond 0)
-    fine : SameLengths trip → n ≤ tripLimit → AllInRange trip → SomeSecond trip → i < n → Outcome (fault accepted 0)
+    if_lanes_differ : (SameLengths trip → ⊥) → Outcome (fault lanes_differ 0)
+    if_too_many : SameLengths trip → trip_limit < n → Outcome (fault too_many_values 0)
+    if_out_of_range : SameLengths trip → n ≤ trip_limit → (bad : ℕ) → FirstBadAt trip bad → Outcome (fault out_of_range bad)
+    if_no_second : SameLengths trip → n ≤ trip_limit → AllInRange trip → NoSecond trip ⊎ (n ≤ i) → Outcome (fault no_second 0)
+    fine : SameLengths trip → n ≤ trip_limit → AllInRange trip → SomeSecond trip → i < n → Outcome (fault accepted 0)

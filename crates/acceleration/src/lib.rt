@@ -1,16 +1,16 @@
 // D of a second, and the products of the seconds that count in a bin (Appendix 7a).
 
-ghost use mathlib.Core.Path.{_≡_};
-ghost use Prim.Native.Nat.{_<_, _≤_};
-ghost use lib.ListN.{length};
-ghost use Rattle·base.specs.Words.{withFront};
-ghost use Rattle·second.specs.Lanes.{lanesOf};
-ghost use Rattle·acceleration·specs.specs.D.{speedBefore, speedAfter, hasBefore, hasAfter, hasD, numbered, dOf, faultOf, accelerationOf};
-ghost use Rattle·acceleration·specs.specs.Inside.{SpeedLanes, productCode, figuresOf};
-ghost use Rattle·acceleration·specs.specs.Products.{productsOf};
+ghost use Rattle.std.specs.Prelude.{◌≡◌, ◌<◌, ◌≤◌, length};
+ghost use Rattle.base.specs.Words.{with_front};
+ghost use Rattle.second.specs.Lanes.{lanes_of};
+ghost use Rattle.acceleration.specs.D.{speed_before, speed_after, has_before, has_after, has_d, numbered, d_of, fault_of, acceleration_of};
+ghost use Rattle.acceleration.specs.Inside.{SpeedLanes, product_code, figures_of};
+ghost use Rattle.acceleration.specs.Products.{products_of};
+
 use base::Fault;
 
 // The answer for one second.
+#[derive(Drop)]
 pub enum Acceleration {
     Rising(u16), // D, where it is not below 0
     Falling(u16), // how far D is below 0
@@ -19,6 +19,7 @@ pub enum Acceleration {
 }
 
 // The products of a bin.
+#[derive(Drop)]
 pub struct Products {
     pub count: usize, // M
     pub total: u64, // T
@@ -38,9 +39,8 @@ pub fn d_of_second(
     marks: &[u8],
     i: usize,
 ) -> Acceleration
-    ensures { λ r.
-        let trip = lanesOf (now (states .entry)) (now (speeds .entry)) (now (altitudes .entry)) (now (co2 .entry)) (now (nox .entry)) (now (counts .entry)) (now (marks .entry)) in
-        ⌜ r ≡ accelerationOf trip i ⌝ }
+    ensures { let trip = lanes_of states.now speeds.now altitudes.now co2.now nox.now counts.now marks.now in
+        result ≡ acceleration_of trip i }
 {
     let fault = fault_of(states, speeds, altitudes, co2, nox, counts, marks, i);
     let number = fault.number;
@@ -64,9 +64,8 @@ fn fault_of(
     marks: &[u8],
     i: usize,
 ) -> Fault
-    ensures { λ r.
-        let trip = lanesOf (now (states .entry)) (now (speeds .entry)) (now (altitudes .entry)) (now (co2 .entry)) (now (nox .entry)) (now (counts .entry)) (now (marks .entry)) in
-        ⌜ r ≡ faultOf trip i ⌝ }
+    ensures { let trip = lanes_of states.now speeds.now altitudes.now co2.now nox.now counts.now marks.now in
+        result ≡ fault_of trip i }
 {
     if !second::lanes_agree(states, speeds, altitudes, co2, nox, counts, marks) {
         return base::fault_at(base::refusal::LANES_DIFFER, 0);
@@ -86,16 +85,16 @@ fn fault_of(
 
 // Whether second i has D: neither it nor one beside it is missing.
 fn has_d(states: &[u8], i: usize) -> bool
-    requires { ⌜ i < length (now states) ⌝ }
-    ensures { λ r. ⌜ r ≡ hasD (now (states .entry)) i ⌝ }
+    requires { i < length states.now }
+    ensures { result ≡ has_d states.now i }
 {
     second::has_values(states[i]) & has_before(states, i) & has_after(states, i)
 }
 
 // Whether the second before second i is not missing.
 fn has_before(states: &[u8], i: usize) -> bool
-    requires { ⌜ i < length (now states) ⌝ }
-    ensures { λ r. ⌜ r ≡ hasBefore (now (states .entry)) i ⌝ }
+    requires { i < length states.now }
+    ensures { result ≡ has_before states.now i }
 {
     if i == 0 {
         return true;
@@ -105,8 +104,8 @@ fn has_before(states: &[u8], i: usize) -> bool
 
 // Whether the second after second i is not missing.
 fn has_after(states: &[u8], i: usize) -> bool
-    requires { ⌜ i < length (now states) ⌝ }
-    ensures { λ r. ⌜ r ≡ hasAfter (now (states .entry)) i ⌝ }
+    requires { i < length states.now }
+    ensures { result ≡ has_after states.now i }
 {
     if i + 1 < states.len() {
         return second::has_values(states[i + 1]);
@@ -116,8 +115,8 @@ fn has_after(states: &[u8], i: usize) -> bool
 
 // D of second i as a number up or down.
 fn d_of(speeds: &[u16], i: usize) -> Acceleration
-    requires { ⌜ i < length (now speeds) ⌝ }
-    ensures { λ r. ⌜ r ≡ numbered (dOf (now (speeds .entry)) i) ⌝ }
+    requires { i < length speeds.now }
+    ensures { result ≡ numbered (d_of speeds.now i) }
 {
     let before = speed_before(speeds, i);
     let after = speed_after(speeds, i);
@@ -129,8 +128,8 @@ fn d_of(speeds: &[u16], i: usize) -> Acceleration
 
 // The speed before second i, 0 before the first.
 fn speed_before(speeds: &[u16], i: usize) -> u16
-    requires { ⌜ i < length (now speeds) ⌝ }
-    ensures { λ r. ⌜ r ≡ speedBefore (now (speeds .entry)) i ⌝ }
+    requires { i < length speeds.now }
+    ensures { result ≡ speed_before speeds.now i }
 {
     if i == 0 {
         return 0;
@@ -140,8 +139,8 @@ fn speed_before(speeds: &[u16], i: usize) -> u16
 
 // The speed after second i, 0 after the last.
 fn speed_after(speeds: &[u16], i: usize) -> u16
-    requires { ⌜ i < length (now speeds) ⌝ }
-    ensures { λ r. ⌜ r ≡ speedAfter (now (speeds .entry)) i ⌝ }
+    requires { i < length speeds.now }
+    ensures { result ≡ speed_after speeds.now i }
 {
     if i + 1 < speeds.len() {
         return speeds[i + 1];
@@ -151,10 +150,10 @@ fn speed_after(speeds: &[u16], i: usize) -> u16
 
 // Writes the products of a bin to the front of a lane, in the order of the seconds.
 pub fn write_products(states: &[u8], speeds: &[u16], bin: usize, lane: &mut [u32]) -> Products
-    requires { ⌜ SpeedLanes (now states) (now speeds) ⌝ }
-    requires { ⌜ length (productsOf bin (now states) (now speeds)) ≤ length (now lane) ⌝ }
-    ensures { λ r. ⌜ r ≡ figuresOf (productsOf bin (now (states .entry)) (now (speeds .entry))) ⌝ }
-    ensures { λ r. ⌜ now (lane .exit) ≡ withFront (productsOf bin (now (states .entry)) (now (speeds .entry))) (now (lane .entry)) ⌝ }
+    requires speed_lanes { SpeedLanes states.now speeds.now }
+    requires speeds_in_bounds { length (products_of bin states.now speeds.now) ≤ length lane.old }
+    ensures value { result ≡ figures_of (products_of bin states.now speeds.now) }
+    ensures lane_after { lane.new ≡ with_front (products_of bin states.now speeds.now) lane.old }
 {
     let mut count = 0;
     let mut total: u64 = 0;
@@ -174,8 +173,8 @@ pub fn write_products(states: &[u8], speeds: &[u16], bin: usize, lane: &mut [u32
 
 // One more than the product of second i, and 0 where it does not count or is in another bin.
 fn product_code(states: &[u8], speeds: &[u16], bin: usize, i: usize) -> u32
-    requires { ⌜ (i < length (now states)) × (i < length (now speeds)) ⌝ }
-    ensures { λ r. ⌜ r ≡ productCode bin (now (states .entry)) (now (speeds .entry)) i ⌝ }
+    requires { (i < length states.now) × (i < length speeds.now) }
+    ensures { result ≡ product_code bin states.now speeds.now i }
 {
     let speed = speeds[i];
     if second::bin_of(speed) != bin {

@@ -1,9 +1,9 @@
--- Laws of `firstBad`: it is the one index below which each is good and which is itself bad or the end. Assumes nothing.
-use Prim.Native.Nat.{ℕ, _≤_, _<_}
-use mathlib.Core.Path.{_≡_, refl, sym, ap}
+-- Laws of `first_bad`: it is the one index below which each is good and which is itself bad or the end. Assumes nothing.
+use Prim.Native.Nat.{ℕ, ◌≤◌, ◌<◌}
+use mathlib.Core.Path.{◌≡◌, refl, sym, ap}
 use mathlib.Core.Bool.{Bool, true, false, not}
-use Rattle·base·specs.specs.Words.{firstBad}
-use Rattle·base·proofs.proofs.FirstWhere.{first-where, first-where-is}
+use Rattle.base.specs.Words.{first_bad}
+use Rattle.base.proofs.FirstWhere.{first_where_lem, first_where_is}
 
 -- the index i is the first bad one: each below it is good, and it is bad or the end
 pub record IsFirstBad (good : ℕ → Bool) (n i : ℕ) : Type 0 where
@@ -11,25 +11,25 @@ pub record IsFirstBad (good : ℕ → Bool) (n i : ℕ) : Type 0 where
   pub before : (k : ℕ) → k < i → good k ≡ true
   pub there : i < n → good i ≡ false
 
-good-if : (b : Bool) → not b ≡ false → b ≡ true
-good-if true e = refl
-good-if false e = sym e
+good_if : (b : Bool) → not b ≡ false → b ≡ true
+good_if true e = refl
+good_if false e = sym e
 
-bad-if : (b : Bool) → not b ≡ true → b ≡ false
-bad-if false e = refl
-bad-if true e = sym e
+bad_if : (b : Bool) → not b ≡ true → b ≡ false
+bad_if false e = refl
+bad_if true e = sym e
 
 -- the first bad index is one
-pub first-bad : (good : ℕ → Bool) (n : ℕ) → IsFirstBad good n (firstBad good n)
-first-bad good n =
-    let first = first-where (λ i. not (good i)) n in
+pub first_bad_lem : (good : ℕ → Bool) (n : ℕ) → IsFirstBad good n (first_bad good n)
+first_bad_lem good n =
+    let first = first_where_lem (λ i. not (good i)) n in
     record {
-      within = first .within;
-      before = λ k h. good-if (good k) (first .before k h);
-      there = λ h. bad-if (good (firstBad good n)) (first .there h);
+      within = first.within;
+      before = λ k h. good_if (good k) (first.before k h);
+      there = λ h. bad_if (good (first_bad good n)) (first.there h);
     }
 
 -- and there is only one
-pub first-bad-is : (good : ℕ → Bool) (n i : ℕ) → IsFirstBad good n i → firstBad good n ≡ i
-first-bad-is good n i is =
-    first-where-is (λ i. not (good i)) n i record { within = is .within; before = λ k h. ap not (is .before k h); there = λ h. ap not (is .there h) }
+pub first_bad_is : (good : ℕ → Bool) (n i : ℕ) → IsFirstBad good n i → first_bad good n ≡ i
+first_bad_is good n i is =
+    first_where_is (λ i. not (good i)) n i record { within = is.within; before = λ k h. ap not (is.before k h); there = λ h. ap not (is.there h) }

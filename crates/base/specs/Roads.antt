@@ -1,6 +1,5 @@
 -- Urban, rural, motorway, by number: a second has one of them as its bin, by its speed; a window as its class, by its mean speed.
-use Prim.Native.Nat.{ℕ}
-use mathlib.Core.List.{List, [], _∷_}
+use Rattle.std.specs.Prelude.{ℕ, List, [], ◌∷◌}
 
 abbrev pub urban : ℕ
 urban = 0
@@ -12,5 +11,5 @@ abbrev pub motorway : ℕ
 motorway = 2
 
 -- a figure of each of the three, in their order
-abbrev pub ofEach {ℓ} : {A : Type ℓ} → (ℕ → A) → List A
-ofEach figure = figure urban ∷ figure rural ∷ figure motorway ∷ []
+abbrev pub of_each {ℓ} : {A : Type ℓ} → (ℕ → A) → List A
+of_each figure = figure urban ∷ figure rural ∷ figure motorway ∷ []

@@ -8,16 +8,14 @@ pub mod refusal;
 pub mod road;
 pub mod state;
 
-ghost use mathlib.Core.Path.{_≡_};
-ghost use Prim.Native.Nat.{_<_, min};
-ghost use lib.IntN.{pos};
-ghost use lib.ListN.{length, getD};
-ghost use Rattle·base·specs.specs.Inside.{altitudeCode};
-ghost use Rattle·base·specs.specs.Second.{tooMany, stateKnown, speedInRange, co2InRange, noxInRange, countInRange};
-ghost use Rattle·base·specs.specs.Refusal.{fault};
-ghost use Rattle·base·specs.specs.Plan.{referenceInRange, curveInRange, toleranceInRange, planInRange};
+ghost use Rattle.std.specs.Prelude.{◌≡◌, ◌<◌, min, pos, length, get_or};
+ghost use Rattle.base.specs.Inside.{altitude_code};
+ghost use Rattle.base.specs.Second.{too_many, state_known, speed_in_range, co2_in_range, nox_in_range, count_in_range};
+ghost use Rattle.base.specs.Refusal.{fault};
+ghost use Rattle.base.specs.Plan.{reference_in_range, curve_in_range, tolerance_in_range, plan_in_range};
 
 // A refusal: its number, and the index of the first bad second or value where the number is 3.
+#[derive(Drop)]
 pub struct Fault {
     pub number: u8,
     pub place: usize,
@@ -25,7 +23,7 @@ pub struct Fault {
 
 // A refusal by its number and its place.
 pub fn fault_at(number: u8, place: usize) -> Fault
-    ensures { λ r. ⌜ r ≡ fault number place ⌝ }
+    ensures { result ≡ fault number place }
 {
     Fault {
         number: number,
@@ -35,6 +33,7 @@ pub fn fault_at(number: u8, place: usize) -> Fault
 
 // What a trip is judged by, fixed before the drive.
 #[repr(C)]
+#[derive(Drop)]
 pub struct Plan {
     pub reference: u32, // reference CO2 mass, mg: half the laboratory cycle's
     pub e1: u32, // curve value E1, mg/km
@@ -48,7 +47,7 @@ pub struct Plan {
 
 // Whether every value of a plan is in its range.
 pub fn plan_in_range(plan: Plan) -> bool
-    ensures { λ r. ⌜ r ≡ planInRange plan ⌝ }
+    ensures { result ≡ plan_in_range plan }
 {
     reference_in_range(plan.reference)
         & curve_in_range(plan.e1)
@@ -62,42 +61,42 @@ pub fn plan_in_range(plan: Plan) -> bool
 
 // Whether a reference mass, in mg, is in its range.
 pub fn reference_in_range(reference: u32) -> bool
-    ensures { λ r. ⌜ r ≡ referenceInRange reference ⌝ }
+    ensures { result ≡ reference_in_range reference }
 {
     (1 <= reference) & (reference <= limits::REFERENCE)
 }
 
 // Whether a curve value, in mg/km, is in its range.
 pub fn curve_in_range(value: u32) -> bool
-    ensures { λ r. ⌜ r ≡ curveInRange value ⌝ }
+    ensures { result ≡ curve_in_range value }
 {
     (1 <= value) & (value <= limits::CURVE)
 }
 
 // Whether a tolerance, in percent, is in its range.
 pub fn tolerance_in_range(tolerance: u8) -> bool
-    ensures { λ r. ⌜ r ≡ toleranceInRange tolerance ⌝ }
+    ensures { result ≡ tolerance_in_range tolerance }
 {
     tolerance <= limits::TOLERANCE
 }
 
 // Whether n seconds, or values, are more than one call takes.
 pub fn too_many(n: usize) -> bool
-    ensures { λ r. ⌜ r ≡ tooMany n ⌝ }
+    ensures { result ≡ too_many n }
 {
     limits::TRIP < n
 }
 
 // Whether a state is one of the three.
 pub fn state_known(state: u8) -> bool
-    ensures { λ r. ⌜ r ≡ stateKnown state ⌝ }
+    ensures { result ≡ state_known state }
 {
     (state == state::MEASURED) | (state == state::MISSING) | (state == state::CHECK)
 }
 
 // Whether a speed, in 0.01 km/h, is in its range.
 pub fn speed_in_range(speed: u16) -> bool
-    ensures { λ r. ⌜ r ≡ speedInRange speed ⌝ }
+    ensures { result ≡ speed_in_range speed }
 {
     speed <= limits::SPEED
 }
@@ -105,8 +104,8 @@ pub fn speed_in_range(speed: u16) -> bool
 // The altitude of second i as a number from 0 up: 1 at the lowest altitude, one more for each cm
 // above it, and 0 where it is out of range.
 pub fn altitude_code(altitudes: &[i32], i: usize) -> u32
-    requires { ⌜ i < length (now altitudes) ⌝ }
-    ensures { λ r. ⌜ r ≡ altitudeCode (getD (now (altitudes .entry)) i (pos 0)) ⌝ }
+    requires { i < length altitudes.now }
+    ensures { result ≡ altitude_code (get_or altitudes.now i (pos 0)) }
 {
     let altitude = altitudes[i];
     if (limits::ALTITUDE_LOWEST <= altitude) & (altitude <= limits::ALTITUDE_HIGHEST) {
@@ -118,28 +117,28 @@ pub fn altitude_code(altitudes: &[i32], i: usize) -> u32
 
 // Whether a CO2 mass, in mg in the second, is in its range.
 pub fn co2_in_range(co2: u32) -> bool
-    ensures { λ r. ⌜ r ≡ co2InRange co2 ⌝ }
+    ensures { result ≡ co2_in_range co2 }
 {
     co2 <= limits::CO2
 }
 
 // Whether a NOx mass, in µg in the second, is in its range.
 pub fn nox_in_range(nox: u32) -> bool
-    ensures { λ r. ⌜ r ≡ noxInRange nox ⌝ }
+    ensures { result ≡ nox_in_range nox }
 {
     nox <= limits::NOX
 }
 
 // Whether a count of particles in the second is in its range.
 pub fn count_in_range(count: u64) -> bool
-    ensures { λ r. ⌜ r ≡ countInRange count ⌝ }
+    ensures { result ≡ count_in_range count }
 {
     count <= limits::COUNT
 }
 
 // The lesser of two numbers of places.
 pub fn least(a: usize, b: usize) -> usize
-    ensures { λ r. ⌜ r ≡ min a b ⌝ }
+    ensures { result ≡ min a b }
 {
     if a <= b { a } else { b }
 }

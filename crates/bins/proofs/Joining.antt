@@ -1,30 +1,30 @@
 -- Tallies and dynamics put together are the bins of the trip. Assumes nothing.
-use Prim.Native.Nat.{ℕ, _^_, _<_, _≤_}
-use mathlib.Core.Path.{_≡_, refl}
+use Prim.Native.Nat.{ℕ, ◌^◌, ◌<◌, ◌≤◌}
+use mathlib.Core.Path.{◌≡◌, refl}
 use mathlib.Core.List.{List}
-use lib.ListN.{length, getD}
-use Rattle·base.specs.Limits.{tripLimit, countMost}
-use Rattle·base.specs.Roads.{ofEach}
-use Rattle·tally.specs.Inside.{Room, binTallies, binTalliesAfter, added}
-use Rattle·tally.specs.Sets.{isPresent}
-use Rattle·second.specs.Row.{markedCount}
-use Rattle·tally.proofs.Tallies.{bins-add-up, tally-room}
-use Rattle·acceleration.specs.Products.{productsOf}
-use Rattle·dynamics.specs.Dynamics.{dynamicsOf}
-use Rattle·bins·specs.specs.Bins.{binOf, binsOf}
-use Rattle·bins·specs.specs.Inside.{joinedAll}
+use lib.ListN.{length, get_or}
+use Rattle.base.specs.Limits.{trip_limit, count_most}
+use Rattle.base.specs.Roads.{of_each}
+use Rattle.tally.specs.Inside.{Room, bin_tallies, bin_tallies_after, added}
+use Rattle.tally.specs.Sets.{is_present}
+use Rattle.second.specs.Row.{marked_count}
+use Rattle.tally.proofs.Tallies.{bins_add_up, tally_room}
+use Rattle.acceleration.specs.Products.{products_of}
+use Rattle.dynamics.specs.Dynamics.{dynamics_of}
+use Rattle.bins.specs.Bins.{bin_of, bins_of}
+use Rattle.bins.specs.Inside.{joined_all}
 
 module _ (states speeds co2 nox counts marks : List ℕ) where
-  pub joins : joinedAll (binTallies states speeds co2 nox counts marks) (ofEach (λ bin. dynamicsOf (productsOf bin states speeds))) ≡ binsOf states speeds co2 nox counts marks .each
-  unfolding joinedAll binTalliesAfter binsOf binOf
+  pub joins : joined_all (bin_tallies states speeds co2 nox counts marks) (of_each (λ bin. dynamics_of (products_of bin states speeds))) ≡ (bins_of states speeds co2 nox counts marks).each
+  unfolding joined_all bin_tallies_after bins_of bin_of
   joins = refl
 
-  pub totals : added (binTallies states speeds co2 nox counts marks) ≡ binsOf states speeds co2 nox counts marks .total
-  unfolding binsOf
-  totals = bins-add-up states speeds co2 nox counts marks
+  pub totals : added (bin_tallies states speeds co2 nox counts marks) ≡ (bins_of states speeds co2 nox counts marks).total
+  unfolding bins_of
+  totals = bins_add_up states speeds co2 nox counts marks
 
   -- the totals fit, whatever the lanes hold but for counts out of range
-  pub totals-fit : ((k : ℕ) → getD speeds k 0 < 2 ^ 16) → ((k : ℕ) → getD co2 k 0 < 2 ^ 32) → ((k : ℕ) → getD nox k 0 < 2 ^ 32) → ((k : ℕ) → markedCount (getD counts k 0) (getD marks k 0) ≤ countMost) → length states ≤ tripLimit → Room (added (binTallies states speeds co2 nox counts marks))
-  totals-fit small-speeds small-co2 small-nox small-counts few =
-      rw (bins-add-up states speeds co2 nox counts marks)
-      (tally-room states speeds co2 nox counts marks small-speeds small-co2 small-nox small-counts (isPresent states) (length states) few)
+  pub totals_fit : ((k : ℕ) → get_or speeds k 0 < 2 ^ 16) → ((k : ℕ) → get_or co2 k 0 < 2 ^ 32) → ((k : ℕ) → get_or nox k 0 < 2 ^ 32) → ((k : ℕ) → marked_count (get_or counts k 0) (get_or marks k 0) ≤ count_most) → length states ≤ trip_limit → Room (added (bin_tallies states speeds co2 nox counts marks))
+  totals_fit small_speeds small_co2 small_nox small_counts few =
+      rw (bins_add_up states speeds co2 nox counts marks)
+      (tally_room states speeds co2 nox counts marks small_speeds small_co2 small_nox small_counts (is_present states) (length states) few)

@@ -1,14 +1,16 @@
 // The bins of a trip: for each its tally and its dynamics, and the totals of the tallies.
 
+ghost use Rattle.std.specs.Prelude.{◌≡◌};
+ghost use Rattle.dynamics.specs.Dynamics.{ranks_of};
+ghost use Rattle.bins.specs.Bins.{joined, bins_of};
+ghost use Rattle.bins.specs.Inside.{BinLanes, joined_all};
+
 use dynamics::Figures;
 use tally::Tally;
-ghost use mathlib.Core.Path.{_≡_};
-ghost use Rattle·dynamics.specs.Dynamics.{ranksOf};
-ghost use Rattle·bins·specs.specs.Bins.{joined, binsOf};
-ghost use Rattle·bins·specs.specs.Inside.{BinLanes, joinedAll};
 
 // A bin of the answer.
 #[repr(C)]
+#[derive(Drop)]
 pub struct Bin {
     pub seconds: u32,
     pub distance: u32, // the sum of the speeds, 0.01 km/h: one km is 360,000
@@ -22,6 +24,7 @@ pub struct Bin {
 }
 
 // The bins urban, rural, motorway, and their totals.
+#[derive(Drop)]
 pub struct Bins {
     pub each: [Bin; 3],
     pub total: Tally,
@@ -38,12 +41,11 @@ pub fn measure(
     marks: &[u8],
     ranks: &mut [u32],
 ) -> Bins
-    requires { ⌜ BinLanes (now states) (now speeds) (now co2) (now nox) (now counts) (now marks) (now ranks) ⌝ }
-    ensures { λ r.
-        let states = now (states .entry) in
-        let speeds = now (speeds .entry) in
-        ⌜ (r ≡ binsOf states speeds (now (co2 .entry)) (now (nox .entry)) (now (counts .entry)) (now (marks .entry)))
-        × (now (ranks .exit) ≡ ranksOf states speeds (now (ranks .entry))) ⌝ }
+    requires { BinLanes states.now speeds.now co2.now nox.now counts.now marks.now ranks.old }
+    ensures { let states = states.entry.now in
+        let speeds = speeds.entry.now in
+        (result ≡ bins_of states speeds co2.now nox.now counts.now marks.now)
+        × (ranks.new ≡ ranks_of states speeds ranks.old) }
 {
     let tallies = tally::tally_bins(states, speeds, co2, nox, counts, marks);
     let total = tally::total(tallies);
@@ -56,7 +58,7 @@ pub fn measure(
 
 // The bins from their tallies and dynamics.
 fn join(tallies: [Tally; 3], figures: [Figures; 3]) -> [Bin; 3]
-    ensures { λ r. ⌜ r ≡ joinedAll tallies figures ⌝ }
+    ensures { result ≡ joined_all tallies figures }
 {
     let urban = tallies[base::road::URBAN];
     let rural = tallies[base::road::RURAL];
@@ -73,7 +75,7 @@ fn join(tallies: [Tally; 3], figures: [Figures; 3]) -> [Bin; 3]
 
 // A bin from its tally and its dynamics.
 fn bin_of(tally: Tally, figures: Figures) -> Bin
-    ensures { λ r. ⌜ r ≡ joined tally figures ⌝ }
+    ensures { result ≡ joined tally figures }
 {
     Bin {
         seconds: tally.seconds,

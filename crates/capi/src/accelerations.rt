@@ -1,17 +1,16 @@
 // D of one second, and the percentile of products.
 
-ghost use mathlib.Core.Path.{_≡_};
-ghost use lib.ListN.{length};
-ghost use Rattle·second.specs.Lanes.{lanesOf};
-ghost use Rattle·acceleration.specs.D.{accelerationOf};
-ghost use Rattle·percentile.specs.Percentile.{answerOf, laneOf};
-ghost use Rattle·crossing.specs.Accelerations.{accelerationAcross, percentileAcross};
+ghost use Rattle.std.specs.Prelude.{◌≡◌, length};
+ghost use Rattle.second.specs.Lanes.{lanes_of};
+ghost use Rattle.acceleration.specs.D.{acceleration_of};
+ghost use Rattle.percentile.specs.Percentile.{answer_of, lane_of};
+ghost use Rattle.crossing.specs.Accelerations.{acceleration_across, percentile_across};
+
 use crossing::accelerations;
-use crossing::accelerations::AccelerationAnswer;
-use crossing::accelerations::PercentileAnswer;
+use crossing::accelerations::{AccelerationAnswer, PercentileAnswer};
 
 // D of second `index`, from 0, of a trip's lanes.
-#[no_mangle]
+#[unsafe(no_mangle)]
 pub extern "C" fn pb_acceleration(
     states: &[u8],
     speeds: &[u16],
@@ -22,17 +21,16 @@ pub extern "C" fn pb_acceleration(
     marks: &[u8],
     index: usize,
 ) -> AccelerationAnswer
-    ensures { λ r.
-        let trip = lanesOf (now (states .entry)) (now (speeds .entry)) (now (altitudes .entry)) (now (co2 .entry)) (now (nox .entry)) (now (counts .entry)) (now (marks .entry)) in
-        ⌜ r ≡ accelerationAcross (accelerationOf trip index) ⌝ }
+    ensures { let trip = lanes_of states.now speeds.now altitudes.now co2.now nox.now counts.now marks.now in
+        result ≡ acceleration_across (acceleration_of trip index) }
 {
     accelerations::acceleration(states, speeds, altitudes, co2, nox, counts, marks, index)
 }
 
 // Q of products in any order, which are ranked into the lane.
-#[no_mangle]
+#[unsafe(no_mangle)]
 pub extern "C" fn pb_percentile(products: &[u32], ranks: &mut [u32]) -> PercentileAnswer
-    ensures { λ r. ⌜ (r ≡ percentileAcross (answerOf (now (products .entry)) (length (now (ranks .entry))))) × (now (ranks .exit) ≡ laneOf (now (products .entry)) (now (ranks .entry))) ⌝ }
+    ensures { (result ≡ percentile_across (answer_of products.now (length ranks.old))) × (ranks.new ≡ lane_of products.now ranks.old) }
 {
     accelerations::percentile(products, ranks)
 }

@@ -1,23 +1,23 @@
 // A stream that arrives in blocks.
 
-ghost use mathlib.Core.Path.{_≡_};
-ghost use Rattle·second.specs.Lanes.{lanesOf, roomIn};
-ghost use Rattle·reader.specs.Reader.{started};
-ghost use Rattle·reader.specs.Blocks.{fedOf, lanesFed, endOf};
-use reader::Fed;
-use reader::Reader;
+ghost use Rattle.std.specs.Prelude.{◌≡◌};
+ghost use Rattle.second.specs.Lanes.{lanes_of, room_in};
+ghost use Rattle.reader.specs.Reader.{started};
+ghost use Rattle.reader.specs.Blocks.{fed_of, lanes_fed, end_of};
+
+use reader::{Fed, Reader};
 use stream::ReadAnswer;
 
 // The reader before the first block.
-#[no_mangle]
+#[unsafe(no_mangle)]
 pub extern "C" fn pb_start() -> Reader
-    ensures { λ r. ⌜ r ≡ started ⌝ }
+    ensures { result ≡ started }
 {
     reader::start()
 }
 
 // Feeds a block into a reader and seven lanes.
-#[no_mangle]
+#[unsafe(no_mangle)]
 pub extern "C" fn pb_feed(
     reader: Reader,
     block: &[u8],
@@ -29,29 +29,20 @@ pub extern "C" fn pb_feed(
     counts: &mut [u64],
     marks: &mut [u8],
 ) -> Fed
-    ensures { λ r.
-        let lanes = lanesOf (now (states .entry)) (now (speeds .entry)) (now (altitudes .entry)) (now (co2 .entry)) (now (nox .entry)) (now (counts .entry)) (now (marks .entry)) in
-        let left = lanesOf (now (states .exit)) (now (speeds .exit)) (now (altitudes .exit)) (now (co2 .exit)) (now (nox .exit)) (now (counts .exit)) (now (marks .exit)) in
-        ⌜ (r ≡ fedOf (roomIn lanes) reader (now (block .entry)))
-        × (left ≡ lanesFed reader (now (block .entry)) lanes) ⌝ }
+    ensures { let lanes = lanes_of states.old speeds.old altitudes.old co2.old nox.old counts.old marks.old in
+        let left = lanes_of states.new speeds.new altitudes.new co2.new nox.new counts.new marks.new in
+        (result ≡ fed_of (room_in lanes) reader block.now)
+        × (left ≡ lanes_fed reader block.now lanes) }
 {
     blocks::feed(
-        reader,
-        block,
-        states,
-        speeds,
-        altitudes,
-        co2,
-        nox,
-        counts,
-        marks,
+        reader, block, states, speeds, altitudes, co2, nox, counts, marks,
     )
 }
 
 // The answer at the end of the stream.
-#[no_mangle]
+#[unsafe(no_mangle)]
 pub extern "C" fn pb_end(reader: Reader) -> ReadAnswer
-    ensures { λ r. ⌜ r ≡ endOf reader ⌝ }
+    ensures { result ≡ end_of reader }
 {
     reader::end(reader)
 }

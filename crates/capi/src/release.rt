@@ -1,12 +1,12 @@
 // What this build means by "valid".
 
-ghost use mathlib.Core.Path.{_≡_};
-ghost use Rattle·meaning.specs.Meaning.{releaseOfMeaning};
+ghost use Rattle.std.specs.Prelude.{◌≡◌};
+ghost use Rattle.meaning.specs.Meaning.{release_of_meaning};
 
 // The release of the meaning: the entry of docs/VALID.md by which this build answers.
-#[no_mangle]
+#[unsafe(no_mangle)]
 pub extern "C" fn pb_meaning() -> u32
-    ensures { λ r. ⌜ r ≡ releaseOfMeaning ⌝ }
+    ensures { result ≡ release_of_meaning }
 {
     meaning::RELEASE
 }

@@ -1,13 +1,12 @@
 // The sweep over the kept seconds.
 
-ghost use mathlib.Core.Path.{_≡_};
-ghost use lib.ListN.{length};
-ghost use Rattle·sweep.specs.Sweep.{sweepAnswer, sweepEnds};
-use sweep::SweepState;
-use sweep::Swept;
+ghost use Rattle.std.specs.Prelude.{◌≡◌, length};
+ghost use Rattle.sweep.specs.Sweep.{sweep_answer, sweep_ends};
+
+use sweep::{SweepState, Swept};
 
 // A budget of moves of the sweep, from a state.
-#[no_mangle]
+#[unsafe(no_mangle)]
 pub extern "C" fn pb_sweep(
     reference: u32,
     co2: &[u32],
@@ -15,7 +14,7 @@ pub extern "C" fn pb_sweep(
     state: SweepState,
     budget: u64,
 ) -> Swept
-    ensures { λ r. ⌜ (r ≡ sweepAnswer reference (now (co2 .entry)) (length (now (ends .entry))) state budget) × (now (ends .exit) ≡ sweepEnds reference (now (co2 .entry)) (now (ends .entry)) state budget) ⌝ }
+    ensures { (result ≡ sweep_answer reference co2.now (length ends.old) state budget) × (ends.new ≡ sweep_ends reference co2.now ends.old state budget) }
 {
     sweep::sweep(reference, co2, ends, state, budget)
 }

@@ -1,14 +1,15 @@
 // A whole trip.
 
-ghost use mathlib.Core.Path.{_≡_};
-ghost use Rattle·second.specs.Lanes.{lanesOf};
-ghost use Rattle·trip.specs.Trip.{answerOf};
-ghost use Rattle·trip.specs.Lent.{lentOf, roomsIn, lentLeft};
+ghost use Rattle.std.specs.Prelude.{◌≡◌};
+ghost use Rattle.second.specs.Lanes.{lanes_of};
+ghost use Rattle.trip.specs.Trip.{answer_of};
+ghost use Rattle.trip.specs.Lent.{lent_of, rooms_in, lent_left};
+
 use base::Plan;
 use trip::Evaluated;
 
 // Evaluates a trip from its plan and its seven lanes; the four lent lanes need a place per second.
-#[no_mangle]
+#[unsafe(no_mangle)]
 pub extern "C" fn pb_evaluate(
     plan: Plan,
     states: &[u8],
@@ -23,12 +24,11 @@ pub extern "C" fn pb_evaluate(
     ends: &mut [u16],
     ranks: &mut [u32],
 ) -> Evaluated
-    ensures { λ r.
-        let trip = lanesOf (now (states .entry)) (now (speeds .entry)) (now (altitudes .entry)) (now (co2 .entry)) (now (nox .entry)) (now (counts .entry)) (now (marks .entry)) in
-        let lent = lentOf (now («kept_speeds» .entry)) (now («kept_co2» .entry)) (now (ends .entry)) (now (ranks .entry)) in
-        let left = lentOf (now («kept_speeds» .exit)) (now («kept_co2» .exit)) (now (ends .exit)) (now (ranks .exit)) in
-        ⌜ (r ≡ answerOf plan trip (roomsIn lent))
-        × (left ≡ lentLeft plan trip lent) ⌝ }
+    ensures { let trip = lanes_of states.now speeds.now altitudes.now co2.now nox.now counts.now marks.now in
+        let lent = lent_of kept_speeds.old kept_co2.old ends.old ranks.old in
+        let left = lent_of kept_speeds.new kept_co2.new ends.new ranks.new in
+        (result ≡ answer_of plan trip (rooms_in lent))
+        × (left ≡ lent_left plan trip lent) }
 {
     trip::evaluate(
         plan,

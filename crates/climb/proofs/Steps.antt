@@ -1,49 +1,49 @@
--- Laws of the climb: one second more at the code's i + 1, and that no trip climbs more than `climbMost`. Assumes nothing.
-use Prim.Native.Nat.{ℕ, suc, _+_, _*_, _≤_}
-use mathlib.Core.Path.{_≡_, refl}
+-- Laws of the climb: one second more at the code's i + 1, and that no trip climbs more than `climb_most`. Assumes nothing.
+use Prim.Native.Nat.{ℕ, suc, ◌+◌, ◌*◌, ◌≤◌}
+use mathlib.Core.Path.{◌≡◌, refl}
 use mathlib.Core.List.{List}
 use native.Mathlib.Numerals.{add-one}
 use native.Mathlib.Omega.{arith}
 use lib.IntN.{ℤ}
 use lib.ListN.{length}
-use Rattle·base.specs.Inside.{altitudeCode}
-use Rattle·base.proofs.Altitude.{code-at-most, altitude-difference}
-use Rattle·base.proofs.Seconds.{after-none, after-more, after-keeps}
-use Rattle·climb·specs.specs.Corrected.{Altitude, none, cm, correctedAfter}
-use Rattle·climb·specs.specs.Climb.{stepUp, climbAfter, climbOf}
-use Rattle·climb·specs.specs.Inside.{codeMost, climbMost, ClimbLanes}
-use Rattle·climb·proofs.proofs.Codes.{upward-of}
-use Rattle·climb·proofs.proofs.Altitudes.{Within, corrected-within}
+use Rattle.base.specs.Inside.{altitude_code}
+use Rattle.base.proofs.Altitude.{code_at_most, altitude_difference}
+use Rattle.base.proofs.Seconds.{after_none, after_more, after_keeps}
+use Rattle.climb.specs.Corrected.{Altitude, none, cm, corrected_after}
+use Rattle.climb.specs.Climb.{step_up, climb_after, climb_of}
+use Rattle.climb.specs.Inside.{code_most, climb_most, ClimbLanes}
+use Rattle.climb.proofs.Codes.{upward_of}
+use Rattle.climb.proofs.Altitudes.{Within, corrected_within}
 
 -- a step between altitudes in range
-step-at-most : (from to : Altitude) → Within from → Within to → stepUp from to ≤ codeMost
-unfolding stepUp
-step-at-most none to p q = omega arith
-step-at-most (cm y) none p q = omega arith
-step-at-most (cm y) (cm z) p q =
-    rw (altitude-difference y z p q) (omega (arith, upward-of (altitudeCode z) (altitudeCode y), code-at-most z))
+step_at_most : (from to : Altitude) → Within from → Within to → step_up from to ≤ code_most
+unfolding step_up
+step_at_most none to p q = omega arith
+step_at_most (cm y) none p q = omega arith
+step_at_most (cm y) (cm z) p q =
+    rw (altitude_difference y z p q) (omega (arith, upward_of (altitude_code z) (altitude_code y), code_at_most z))
 
 module _ (states speeds : List ℕ) (altitudes : List ℤ) where
-  pub climb-none : climbAfter states speeds altitudes 0 ≡ 0
-  unfolding climbAfter
-  climb-none = after-none _ _
+  pub climb_none : climb_after states speeds altitudes 0 ≡ 0
+  unfolding climb_after
+  climb_none = after_none _ _
 
-  pub climb-more : (i : ℕ) → climbAfter states speeds altitudes (i + 1) ≡ climbAfter states speeds altitudes i + stepUp (correctedAfter states speeds altitudes i) (correctedAfter states speeds altitudes (i + 1))
-  unfolding climbAfter
-  climb-more i = rw (after-more _ _ i, add-one) refl
+  pub climb_more : (i : ℕ) → climb_after states speeds altitudes (i + 1) ≡ climb_after states speeds altitudes i + step_up (corrected_after states speeds altitudes i) (corrected_after states speeds altitudes (i + 1))
+  unfolding climb_after
+  climb_more i = rw (after_more _ _ i, add-one) refl
 
   module _ (lanes : ClimbLanes states speeds altitudes) where
-    one-at-most : (i : ℕ) → stepUp (correctedAfter states speeds altitudes i) (correctedAfter states speeds altitudes (suc i)) ≤ codeMost
-    one-at-most i =
-        step-at-most _ _ (corrected-within states speeds altitudes (lanes .recorded) i) (corrected-within states speeds altitudes (lanes .recorded) (suc i))
+    one_at_most : (i : ℕ) → step_up (corrected_after states speeds altitudes i) (corrected_after states speeds altitudes (suc i)) ≤ code_most
+    one_at_most i =
+        step_at_most _ _ (corrected_within states speeds altitudes lanes.recorded i) (corrected_within states speeds altitudes lanes.recorded (suc i))
 
-    after-at-most : (n : ℕ) → climbAfter states speeds altitudes n ≤ n * codeMost
-    unfolding climbAfter
-    after-at-most =
-        after-keeps _ _ (λ i climb. climb ≤ i * codeMost) (omega arith)
-        (λ i climb (h : climb ≤ i * codeMost).
-        omega (arith, one-at-most i))
+    after_at_most : (n : ℕ) → climb_after states speeds altitudes n ≤ n * code_most
+    unfolding climb_after
+    after_at_most =
+        after_keeps _ _ (λ i climb. climb ≤ i * code_most) (omega arith)
+        (λ i climb (h : climb ≤ i * code_most).
+        omega (arith, one_at_most i))
 
-    pub climb-at-most : climbOf states speeds altitudes .climb ≤ climbMost
-    unfolding climbOf
-    climb-at-most = omega (arith, after-at-most (length states), lanes .few)
+    pub climb_at_most : (climb_of states speeds altitudes).climb ≤ climb_most
+    unfolding climb_of
+    climb_at_most = omega (arith, after_at_most (length states), lanes.few)

@@ -1,13 +1,8 @@
 -- The climb of a trip (Appendix 7b, first edition).
-use Prim.Native.Nat.{ℕ, suc, _+_, _*_}
-use mathlib.Core.Bool.{Bool}
-use mathlib.Core.List.{List}
-use lib.Dec.{leb, ltb}
-use lib.IntN.{ℤ, pos, negsuc, _-ℤ_}
-use lib.ListN.{length}
-use Rattle·base.specs.Words.{afterFirst, howMany}
-use Rattle·climb·specs.specs.declared.Climbed.{Climbed}
-use Rattle·climb·specs.specs.Corrected.{Altitude, none, cm, correctedAfter, highAfter}
+use Rattle.std.specs.Prelude.{ℕ, suc, ◌+◌, ◌*◌, Bool, List, leb, ltb, ℤ, pos, negsuc, ◌-ℤ◌, length}
+use Rattle.base.specs.Words.{after_first, how_many}
+use Rattle.climb.specs.declared.Climbed.{Climbed}
+use Rattle.climb.specs.Corrected.{Altitude, none, cm, corrected_after, high_after}
 
 -- a difference where it is upward, and 0 where it is downward
 unfoldable pub upward : ℤ → ℕ
@@ -15,27 +10,27 @@ upward (pos difference) = difference
 upward (negsuc difference) = 0
 
 -- the upward step from one corrected altitude to the next; where there is none, no step
-unfoldable pub stepUp : Altitude → Altitude → ℕ
-stepUp none to = 0
-stepUp (cm from) none = 0
-stepUp (cm from) (cm to) = upward (to -ℤ from)
+unfoldable pub step_up : Altitude → Altitude → ℕ
+step_up none to = 0
+step_up (cm from) none = 0
+step_up (cm from) (cm to) = upward (to -ℤ from)
 
 -- "Climb is the sum of upward steps between successive corrected altitudes", in cm
-unfoldable pub climbAfter : List ℕ → List ℕ → List ℤ → ℕ → ℕ
-climbAfter states speeds altitudes =
-    afterFirst (λ i climb. climb + stepUp (correctedAfter states speeds altitudes i) (correctedAfter states speeds altitudes (suc i))) 0
+unfoldable pub climb_after : List ℕ → List ℕ → List ℤ → ℕ → ℕ
+climb_after states speeds altitudes =
+    after_first (λ i climb. climb + step_up (corrected_after states speeds altitudes i) (corrected_after states speeds altitudes (suc i))) 0
 
 -- the climb of a whole trip, and whether one of its corrected altitudes is too high
-unfoldable pub climbOf : List ℕ → List ℕ → List ℤ → Climbed
-climbOf states speeds altitudes =
+unfoldable pub climb_of : List ℕ → List ℕ → List ℤ → Climbed
+climb_of states speeds altitudes =
     record {
-      climb = climbAfter states speeds altitudes (length states);
-      high = ltb 0 (howMany (highAfter states speeds altitudes) (length states));
+      climb = climb_after states speeds altitudes (length states);
+      high = ltb 0 (how_many (high_after states speeds altitudes) (length states));
     }
 
 -- "300 times climb not below total S"
-abbrev pub climbTimes : ℕ
-climbTimes = 300
+abbrev pub climb_times : ℕ
+climb_times = 300
 
 unfoldable pub steep : ℕ → ℕ → Bool
-steep climb s = leb s (climbTimes * climb)
+steep climb s = leb s (climb_times * climb)

@@ -1,13 +1,8 @@
 -- Recorded and corrected altitudes (Appendix 7b, first edition).
-use Prim.Native.Nat.{ℕ, zero, suc, _*_}
-use mathlib.Core.Bool.{Bool, false}
-use mathlib.Core.List.{List}
-use lib.Dec.{ltb}
-use lib.IntN.{ℤ, pos, natAbs, _-ℤ_}
-use lib.ListN.{getD}
-use lib.Signed.{ltZ}
-use Rattle·base.specs.Words.{pick, afterFirst}
-use Rattle·second.specs.Row.{hasValues}
+use Rattle.std.specs.Prelude.{ℕ, zero, suc, ◌*◌, Bool, false, List, ltb, ℤ, pos, nat_abs, ◌-ℤ◌, get_or}
+use Rattle.std.specs.Int.Signed.{lt_z}
+use Rattle.base.specs.Words.{pick, after_first}
+use Rattle.second.specs.Row.{has_values}
 
 -- an altitude in cm, or that there is none
 pub data Altitude : Type 0 where
@@ -15,17 +10,17 @@ pub data Altitude : Type 0 where
   cm : ℤ → Altitude
 
 -- the altitude recorded in second i; none where the second is missing
-unfoldable pub recordedAt : List ℕ → List ℤ → ℕ → Altitude
-recordedAt states altitudes i = pick (hasValues (getD states i 0)) (cm (getD altitudes i (pos 0))) none
+unfoldable pub recorded_at : List ℕ → List ℤ → ℕ → Altitude
+recorded_at states altitudes i = pick (has_values (get_or states i 0)) (cm (get_or altitudes i (pos 0))) none
 
 -- the altitude recorded in the second before second i; none before the first second
-unfoldable pub recordedBefore : List ℕ → List ℤ → ℕ → Altitude
-recordedBefore states altitudes zero = none
-recordedBefore states altitudes (suc i) = recordedAt states altitudes i
+unfoldable pub recorded_before : List ℕ → List ℤ → ℕ → Altitude
+recorded_before states altitudes zero = none
+recorded_before states altitudes (suc i) = recorded_at states altitudes i
 
 -- "with d the change of recorded altitude from the second before and s this second's speed, if 648d² > 25s²"
 unfoldable pub jumps : ℤ → ℕ → Bool
-jumps d s = ltb (25 * (s * s)) (648 * (natAbs d * natAbs d))
+jumps d s = ltb (25 * (s * s)) (648 * (nat_abs d * nat_abs d))
 
 -- the corrected altitude after a second, from the previous corrected one, what the second before recorded, what the second
 -- itself recorded, and its speed
@@ -38,18 +33,18 @@ corrected previous none (cm recorded) s = cm recorded
 corrected previous (cm before) (cm recorded) s = pick (jumps (recorded -ℤ before) s) previous (cm recorded)
 
 -- the corrected altitude after the first i seconds; none before the first that has an altitude
-unfoldable pub correctedAfter : List ℕ → List ℕ → List ℤ → ℕ → Altitude
-correctedAfter states speeds altitudes =
-    afterFirst (λ i previous. corrected previous (recordedBefore states altitudes i) (recordedAt states altitudes i) (getD speeds i 0)) none
+unfoldable pub corrected_after : List ℕ → List ℕ → List ℤ → ℕ → Altitude
+corrected_after states speeds altitudes =
+    after_first (λ i previous. corrected previous (recorded_before states altitudes i) (recorded_at states altitudes i) (get_or speeds i 0)) none
 
 -- "a corrected altitude above 130,000"
-abbrev pub highestAltitude : ℕ
-highestAltitude = 130_000
+abbrev pub highest_altitude : ℕ
+highest_altitude = 130_000
 
-unfoldable pub isHigh : Altitude → Bool
-isHigh none = false
-isHigh (cm altitude) = ltZ (pos highestAltitude) altitude
+unfoldable pub is_high : Altitude → Bool
+is_high none = false
+is_high (cm altitude) = lt_z (pos highest_altitude) altitude
 
 -- the corrected altitude after second i is too high
-abbrev pub highAfter : List ℕ → List ℕ → List ℤ → ℕ → Bool
-highAfter states speeds altitudes i = isHigh (correctedAfter states speeds altitudes (suc i))
+abbrev pub high_after : List ℕ → List ℕ → List ℤ → ℕ → Bool
+high_after states speeds altitudes i = is_high (corrected_after states speeds altitudes (suc i))

@@ -2,16 +2,15 @@
 // first and last altitude are. Inside, an altitude is its code, as base::altitude_code gives it: cm
 // from 1 at the lowest altitude up; 0 says that there is none.
 
-ghost use mathlib.Core.Path.{_≡_};
-ghost use Prim.Native.Nat.{_<_, _≤_};
-ghost use lib.IntN.{natAbs, subℕ};
-ghost use lib.ListN.{length};
-ghost use Rattle·climb·specs.specs.Corrected.{recordedAt, jumps, corrected};
-ghost use Rattle·climb·specs.specs.Climb.{stepUp, climbOf, steep};
-ghost use Rattle·climb·specs.specs.Ends.{firstWithAltitude, lastWithAltitude, endsApart};
-ghost use Rattle·climb·specs.specs.Inside.{codeMost, altitudeOf, climbMost, AltitudeLanes, ClimbLanes};
+ghost use Rattle.std.specs.Prelude.{◌≡◌, ◌<◌, ◌≤◌, nat_abs, length};
+ghost use Rattle.std.proofs.Math.IntN.{sub_ℕ};
+ghost use Rattle.climb.specs.Corrected.{recorded_at, jumps, corrected};
+ghost use Rattle.climb.specs.Climb.{step_up, climb_of, steep};
+ghost use Rattle.climb.specs.Ends.{first_with_altitude, last_with_altitude, ends_apart};
+ghost use Rattle.climb.specs.Inside.{code_most, altitude_of, climb_most, AltitudeLanes, ClimbLanes};
 
 // What the altitudes of a trip come to.
+#[derive(Drop)]
 pub struct Climbed {
     pub climb: u64, // cm
     pub high: bool, // a corrected altitude is above 130,000 cm
@@ -27,8 +26,8 @@ const APART: u32 = 10_000;
 
 // The climb of a trip, and whether a corrected altitude is too high, in one pass.
 pub fn climb(states: &[u8], speeds: &[u16], altitudes: &[i32]) -> Climbed
-    requires { ⌜ ClimbLanes (now states) (now speeds) (now altitudes) ⌝ }
-    ensures { λ r. ⌜ r ≡ climbOf (now (states .entry)) (now (speeds .entry)) (now (altitudes .entry)) ⌝ }
+    requires { ClimbLanes states.now speeds.now altitudes.now }
+    ensures { result ≡ climb_of states.now speeds.now altitudes.now }
 {
     let mut before: u32 = 0;
     let mut last: u32 = 0;
@@ -49,17 +48,17 @@ pub fn climb(states: &[u8], speeds: &[u16], altitudes: &[i32]) -> Climbed
 
 // Whether 300 times the climb, in cm, is not below the sum of speeds s.
 pub fn too_steep(climb: u64, s: u32) -> bool
-    requires { ⌜ climb ≤ climbMost ⌝ }
-    ensures { λ r. ⌜ r ≡ steep climb s ⌝ }
+    requires { climb ≤ climb_most }
+    ensures { result ≡ steep climb s }
 {
     300 * climb >= s as u64
 }
 
 // The recorded altitude of second i; 0 where the second is missing.
 fn recorded_at(states: &[u8], altitudes: &[i32], i: usize) -> u32
-    requires { ⌜ AltitudeLanes (now states) (now altitudes) ⌝ }
-    requires { ⌜ i < length (now states) ⌝ }
-    ensures { λ r. ⌜ (altitudeOf r ≡ recordedAt (now (states .entry)) (now (altitudes .entry)) i) × (r ≤ codeMost) ⌝ }
+    requires altitude_lanes { AltitudeLanes states.now altitudes.now }
+    requires i_in_bounds { i < length states.now }
+    ensures { (altitude_of result ≡ recorded_at states.now altitudes.now i) × (result ≤ code_most) }
 {
     let recorded = base::altitude_code(altitudes, i);
     if second::has_values(states[i]) {
@@ -71,8 +70,8 @@ fn recorded_at(states: &[u8], altitudes: &[i32], i: usize) -> u32
 // The corrected altitude after a second: from the one before it, from what the second before it
 // recorded, and from the second's own altitude and speed.
 fn corrected_from(last: u32, before: u32, recorded: u32, speed: u16) -> u32
-    requires { ⌜ (before ≤ codeMost) × (recorded ≤ codeMost) ⌝ }
-    ensures { λ r. ⌜ altitudeOf r ≡ corrected (altitudeOf last) (altitudeOf before) (altitudeOf recorded) speed ⌝ }
+    requires { (before ≤ code_most) × (recorded ≤ code_most) }
+    ensures { altitude_of result ≡ corrected (altitude_of last) (altitude_of before) (altitude_of recorded) speed }
 {
     if recorded == 0 {
         return last;
@@ -88,8 +87,8 @@ fn corrected_from(last: u32, before: u32, recorded: u32, speed: u16) -> u32
 
 // Whether the recorded altitude changes by more than the speed allows.
 fn jumps_to(before: u32, recorded: u32, speed: u16) -> bool
-    requires { ⌜ (before ≤ codeMost) × (recorded ≤ codeMost) ⌝ }
-    ensures { λ r. ⌜ r ≡ jumps (subℕ recorded before) speed ⌝ }
+    requires { (before ≤ code_most) × (recorded ≤ code_most) }
+    ensures { result ≡ jumps (sub_ℕ recorded before) speed }
 {
     let d = apart(before, recorded) as u64;
     let s = speed as u64;
@@ -98,7 +97,7 @@ fn jumps_to(before: u32, recorded: u32, speed: u16) -> bool
 
 // How far apart two numbers are.
 fn apart(a: u32, b: u32) -> u32
-    ensures { λ r. ⌜ r ≡ natAbs (subℕ b a) ⌝ }
+    ensures { result ≡ nat_abs (sub_ℕ b a) }
 {
     if a < b {
         return b - a;
@@ -108,7 +107,7 @@ fn apart(a: u32, b: u32) -> u32
 
 // The step up between two successive corrected altitudes, and 0 where it is down or the first.
 fn step_up(from: u32, to: u32) -> u32
-    ensures { λ r. ⌜ r ≡ stepUp (altitudeOf from) (altitudeOf to) ⌝ }
+    ensures { result ≡ step_up (altitude_of from) (altitude_of to) }
 {
     if from == 0 {
         return 0;
@@ -121,8 +120,8 @@ fn step_up(from: u32, to: u32) -> u32
 
 // Whether the first and the last recorded altitude differ by over 10,000 cm.
 pub fn ends_apart(states: &[u8], altitudes: &[i32]) -> bool
-    requires { ⌜ AltitudeLanes (now states) (now altitudes) ⌝ }
-    ensures { λ r. ⌜ r ≡ endsApart (now (states .entry)) (now (altitudes .entry)) ⌝ }
+    requires { AltitudeLanes states.now altitudes.now }
+    ensures { result ≡ ends_apart states.now altitudes.now }
 {
     let first = first_with_altitude(states);
     if first == states.len() {
@@ -136,7 +135,7 @@ pub fn ends_apart(states: &[u8], altitudes: &[i32]) -> bool
 
 // The first second that has an altitude, and the number of seconds where none has.
 fn first_with_altitude(states: &[u8]) -> usize
-    ensures { λ r. ⌜ r ≡ firstWithAltitude (now (states .entry)) ⌝ }
+    ensures { result ≡ first_with_altitude states.now }
 {
     let mut i = 0;
     while i < states.len() {
@@ -151,7 +150,7 @@ fn first_with_altitude(states: &[u8]) -> usize
 // The last second that has an altitude, looked for from the end; the number of seconds where none
 // has.
 fn last_with_altitude(states: &[u8]) -> usize
-    ensures { λ r. ⌜ r ≡ lastWithAltitude (now (states .entry)) ⌝ }
+    ensures { result ≡ last_with_altitude states.now }
 {
     let mut i = states.len();
     while 0 < i {

@@ -1,16 +1,17 @@
 // D of one second, and the percentile of products.
 
-ghost use mathlib.Core.Path.{_≡_};
-ghost use lib.ListN.{length};
-ghost use Rattle·second.specs.Lanes.{lanesOf};
-ghost use Rattle·acceleration.specs.D.{accelerationOf};
-ghost use Rattle·percentile.specs.Percentile.{answerOf, laneOf};
-ghost use Rattle·crossing·specs.specs.Accelerations.{accelerationAcross, percentileAcross};
+ghost use Rattle.std.specs.Prelude.{◌≡◌, length};
+ghost use Rattle.second.specs.Lanes.{lanes_of};
+ghost use Rattle.acceleration.specs.D.{acceleration_of};
+ghost use Rattle.percentile.specs.Percentile.{answer_of, lane_of};
+ghost use Rattle.crossing.specs.Accelerations.{acceleration_across, percentile_across};
+
 use acceleration::Acceleration;
 use percentile::Answer;
 
 // D of one second: a number, or none.
 #[repr(C)]
+#[derive(Drop)]
 pub struct AccelerationAnswer {
     pub refusal: u8, // 0, 1, 2, 3 or 4
     pub has_d: bool,
@@ -30,19 +31,11 @@ pub fn acceleration(
     marks: &[u8],
     index: usize,
 ) -> AccelerationAnswer
-    ensures { λ r.
-        let trip = lanesOf (now (states .entry)) (now (speeds .entry)) (now (altitudes .entry)) (now (co2 .entry)) (now (nox .entry)) (now (counts .entry)) (now (marks .entry)) in
-        ⌜ r ≡ accelerationAcross (accelerationOf trip index) ⌝ }
+    ensures { let trip = lanes_of states.now speeds.now altitudes.now co2.now nox.now counts.now marks.now in
+        result ≡ acceleration_across (acceleration_of trip index) }
 {
     let found = acceleration::d_of_second(
-        states,
-        speeds,
-        altitudes,
-        co2,
-        nox,
-        counts,
-        marks,
-        index,
+        states, speeds, altitudes, co2, nox, counts, marks, index,
     );
     match found {
         Acceleration::Rising(d) => AccelerationAnswer {
@@ -78,6 +71,7 @@ pub fn acceleration(
 
 // Q of products.
 #[repr(C)]
+#[derive(Drop)]
 pub struct PercentileAnswer {
     pub refusal: u8, // 0, 2, 12, 6 or 3
     pub q: u64,
@@ -86,7 +80,7 @@ pub struct PercentileAnswer {
 
 // Q of products in any order, which are ranked into the lane.
 pub fn percentile(products: &[u32], ranks: &mut [u32]) -> PercentileAnswer
-    ensures { λ r. ⌜ (r ≡ percentileAcross (answerOf (now (products .entry)) (length (now (ranks .entry))))) × (now (ranks .exit) ≡ laneOf (now (products .entry)) (now (ranks .entry))) ⌝ }
+    ensures { (result ≡ percentile_across (answer_of products.now (length ranks.old))) × (ranks.new ≡ lane_of products.now ranks.old) }
 {
     let found = percentile::percentile(products, ranks);
     match found {

@@ -1,14 +1,14 @@
 // From concentration to mass.
 
-ghost use mathlib.Core.Path.{_≡_};
-ghost use Rattle·mass.specs.Mass.{co2Mass, noxMass};
-ghost use Rattle·crossing·specs.specs.Concentration.{readingOf, massAcross, answerOf};
-use mass::Reading;
-use mass::Setting;
-use mass::Weighed;
+ghost use Rattle.std.specs.Prelude.{◌≡◌};
+ghost use Rattle.mass.specs.Mass.{co2_mass, nox_mass};
+ghost use Rattle.crossing.specs.Concentration.{reading_of, mass_across, answer_of};
+
+use mass::{Reading, Setting, Weighed};
 
 // The answer of a mass call.
 #[repr(C)]
+#[derive(Drop)]
 pub struct MassAnswer {
     pub refusal: u8, // 0, 9 or 10
     pub mass: u32, // CO2 in mg or NOx in µg, 0 in a refusal
@@ -17,7 +17,7 @@ pub struct MassAnswer {
 
 // The CO2 mass of a second, in mg, from a reading of a kind 0 to 3.
 pub fn mass_co2(kind: u8, value: f64, setting: Setting) -> MassAnswer
-    ensures { λ r. ⌜ r ≡ answerOf (massAcross co2Mass kind value setting) ⌝ }
+    ensures { result ≡ answer_of (mass_across co2_mass kind value setting) }
 {
     if KINDS <= kind {
         return answer(Weighed::BadInput);
@@ -27,7 +27,7 @@ pub fn mass_co2(kind: u8, value: f64, setting: Setting) -> MassAnswer
 
 // The NOx mass of a second, in µg, from a reading of a kind 0 to 3.
 pub fn mass_nox(kind: u8, value: f64, setting: Setting) -> MassAnswer
-    ensures { λ r. ⌜ r ≡ answerOf (massAcross noxMass kind value setting) ⌝ }
+    ensures { result ≡ answer_of (mass_across nox_mass kind value setting) }
 {
     if KINDS <= kind {
         return answer(Weighed::BadInput);
@@ -46,7 +46,7 @@ const KINDS: u8 = 4;
 
 // The reading of a kind below 4.
 fn reading(kind: u8, value: f64) -> Reading
-    ensures { λ r. ⌜ r ≡ readingOf kind value ⌝ }
+    ensures { result ≡ reading_of kind value }
 {
     if kind == WET_PPM {
         return Reading::WetPpm(value);
@@ -62,7 +62,7 @@ fn reading(kind: u8, value: f64) -> Reading
 
 // The answer as it crosses: the paper's number, place and mass.
 fn answer(weighed: Weighed) -> MassAnswer
-    ensures { λ r. ⌜ r ≡ answerOf weighed ⌝ }
+    ensures { result ≡ answer_of weighed }
 {
     match weighed {
         Weighed::Mass(mass) => MassAnswer {

@@ -1,15 +1,15 @@
 // One item of the trip stream.
 
-ghost use mathlib.Core.Path.{_≡_};
-ghost use Rattle·crossing·specs.specs.Items.{contentsOf, itemAnswer, itemAcross};
-use base::Plan;
-use base::refusal;
-use item::Front;
-use item::Item;
+ghost use Rattle.std.specs.Prelude.{◌≡◌};
+ghost use Rattle.crossing.specs.Items.{contents_of, item_answer, item_across};
+
+use base::{Plan, refusal};
+use item::{Front, Item};
 use second::Row;
 
 // One item. Only the members of its kind are set.
 #[repr(C)]
+#[derive(Drop)]
 pub struct ItemAnswer {
     pub refusal: u8, // 0, 8, 7, 5 or 3
     pub kind: u8, // the kind byte; 0 in a refusal
@@ -25,7 +25,7 @@ pub struct ItemAnswer {
 
 // One item from the front of some bytes.
 pub fn item(bytes: &[u8]) -> ItemAnswer
-    ensures { λ r. ⌜ r ≡ itemAcross (now (bytes .entry)) ⌝ }
+    ensures { result ≡ item_across bytes.now }
 {
     let front = item::read_item(bytes);
     match front {
@@ -38,6 +38,7 @@ pub fn item(bytes: &[u8]) -> ItemAnswer
 }
 
 // What an item holds: a plan or a second, and zeros for the other.
+#[derive(Drop)]
 struct Contents {
     pub row: Row,
     pub plan: Plan,
@@ -71,7 +72,7 @@ const NO_CONTENTS: Contents = Contents {
 
 // The contents of an item.
 fn contents_of(item: Item) -> Contents
-    ensures { λ r. ⌜ r ≡ contentsOf item ⌝ }
+    ensures { result ≡ contents_of item }
 {
     match item {
         Item::Plan(plan) => Contents {
@@ -87,7 +88,7 @@ fn contents_of(item: Item) -> Contents
 
 // The answer as it crosses.
 fn answer(refusal: u8, kind: u8, contents: Contents, length: usize) -> ItemAnswer
-    ensures { λ r. ⌜ r ≡ itemAnswer refusal kind contents length 0 ⌝ }
+    ensures { result ≡ item_answer refusal kind contents length 0 }
 {
     let row = contents.row;
     let altitude = row.altitude;

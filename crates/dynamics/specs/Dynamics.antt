@@ -1,23 +1,21 @@
 -- The dynamics of a trip (Appendix 7a).
-use Prim.Native.Nat.{ℕ}
-use mathlib.Core.List.{List, _++_}
-use lib.ListN.{length}
-use Rattle·base.specs.Roads.{urban, rural, motorway}
-use Rattle·base.specs.Words.{sum, withFront}
-use Rattle·order.specs.Sort.{sort}
-use Rattle·acceleration.specs.Products.{productsOf}
-use Rattle·percentile.specs.Percentile.{qOrZero}
-use Rattle·dynamics·specs.specs.declared.Figures.{Figures}
+use Rattle.std.specs.Prelude.{ℕ, List, ◌++◌, length}
+use Rattle.base.specs.Roads.{urban, rural, motorway}
+use Rattle.base.specs.Words.{sum, with_front}
+use Rattle.order.specs.Sort.{sort}
+use Rattle.acceleration.specs.Products.{products_of}
+use Rattle.percentile.specs.Percentile.{q_or_zero}
+use Rattle.dynamics.specs.declared.Figures.{Figures}
 
 -- "M, T and Q (zero where M is below 100)" of a bin's products
-unfoldable pub dynamicsOf : List ℕ → Figures
-dynamicsOf products = record { m = length products; t = sum products; q = qOrZero products }
+unfoldable pub dynamics_of : List ℕ → Figures
+dynamics_of products = record { m = length products; t = sum products; q = q_or_zero products }
 
 -- "urban, then rural, then motorway products, each ascending"
-abbrev pub rankedProducts : List ℕ → List ℕ → List ℕ
-rankedProducts states speeds =
-    sort (productsOf urban states speeds) ++ sort (productsOf rural states speeds) ++ sort (productsOf motorway states speeds)
+abbrev pub ranked_products : List ℕ → List ℕ → List ℕ
+ranked_products states speeds =
+    sort (products_of urban states speeds) ++ sort (products_of rural states speeds) ++ sort (products_of motorway states speeds)
 
 -- the ranking lane: "afterwards it holds urban, then rural, then motorway products, .., the rest unchanged"
-unfoldable pub ranksOf : List ℕ → List ℕ → List ℕ → List ℕ
-ranksOf states speeds ranks = withFront (rankedProducts states speeds) ranks
+unfoldable pub ranks_of : List ℕ → List ℕ → List ℕ → List ℕ
+ranks_of states speeds ranks = with_front (ranked_products states speeds) ranks

@@ -1,9 +1,6 @@
 -- What the steps inside leave of the ranking lane, and what they may take for granted.
-use Prim.Native.Nat.{ℕ, _+_, _≤_}
-use mathlib.Core.Path.{_≡_}
-use mathlib.Core.List.{List, _++_}
-use lib.ListN.{length, take, drop}
-use Rattle·base.specs.Limits.{tripLimit}
+use Rattle.std.specs.Prelude.{ℕ, ◌+◌, ◌≤◌, ◌≡◌, List, ◌++◌, length, take, drop}
+use Rattle.base.specs.Limits.{trip_limit}
 
 -- a lane with values put in from a place on, the rest unchanged
 abbrev pub placed : ℕ → List ℕ → List ℕ → List ℕ
@@ -12,5 +9,5 @@ placed from values lane = take from lane ++ (values ++ drop (from + length value
 -- what the dynamics are asked of: lanes of one length, no more than a trip's, and "a place per second" for the ranks
 pub record DynamicsLanes (states speeds ranks : List ℕ) : Type 0 where
   pub agree : length speeds ≡ length states
-  pub few : length states ≤ tripLimit
+  pub few : length states ≤ trip_limit
   pub room : length states ≤ length ranks

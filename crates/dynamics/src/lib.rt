@@ -1,18 +1,17 @@
 // The dynamics of a trip (Appendix 7a): for each bin its products, ranked, their sum and their
 // percentile.
 
-ghost use mathlib.Core.Path.{_≡_};
-ghost use Prim.Native.Nat.{_+_, _≤_};
-ghost use lib.ListN.{length};
-ghost use Rattle·base.specs.Roads.{ofEach};
-ghost use Rattle·base.specs.Words.{withFront};
-ghost use Rattle·order.specs.Sort.{sort};
-ghost use Rattle·acceleration.specs.Inside.{SpeedLanes};
-ghost use Rattle·acceleration.specs.Products.{productsOf};
-ghost use Rattle·dynamics·specs.specs.Dynamics.{dynamicsOf, ranksOf};
-ghost use Rattle·dynamics·specs.specs.Inside.{DynamicsLanes, placed};
+ghost use Rattle.std.specs.Prelude.{◌≡◌, ◌+◌, ◌≤◌, length};
+ghost use Rattle.base.specs.Roads.{of_each};
+ghost use Rattle.base.specs.Words.{with_front};
+ghost use Rattle.order.specs.Sort.{sort};
+ghost use Rattle.acceleration.specs.Inside.{SpeedLanes};
+ghost use Rattle.acceleration.specs.Products.{products_of};
+ghost use Rattle.dynamics.specs.Dynamics.{dynamics_of, ranks_of};
+ghost use Rattle.dynamics.specs.Inside.{DynamicsLanes, placed};
 
 // What the dynamics of a bin come to.
+#[derive(Drop)]
 pub struct Figures {
     pub m: u32, // how many products
     pub t: u64, // their sum
@@ -22,12 +21,11 @@ pub struct Figures {
 // The dynamics of the three bins. The lane afterwards holds the urban, the rural and the motorway
 // products, each ascending, and the rest of it is as it was.
 pub fn dynamics(states: &[u8], speeds: &[u16], ranks: &mut [u32]) -> [Figures; 3]
-    requires { ⌜ DynamicsLanes (now states) (now speeds) (now ranks) ⌝ }
-    ensures { λ r.
-        let states = now (states .entry) in
-        let speeds = now (speeds .entry) in
-        ⌜ (r ≡ ofEach (λ bin. dynamicsOf (productsOf bin states speeds)))
-        × (now (ranks .exit) ≡ ranksOf states speeds (now (ranks .entry))) ⌝ }
+    requires { DynamicsLanes states.now speeds.now ranks.old }
+    ensures { let states = states.entry.now in
+        let speeds = speeds.entry.now in
+        (result ≡ of_each (λ bin. dynamics_of (products_of bin states speeds)))
+        × (ranks.new ≡ ranks_of states speeds ranks.old) }
 {
     let urban = dynamics_from(states, speeds, base::road::URBAN, ranks, 0);
     let first = urban.m as usize;
@@ -45,24 +43,22 @@ fn dynamics_from(
     lane: &mut [u32],
     from: usize,
 ) -> Figures
-    requires { ⌜ SpeedLanes (now states) (now speeds) ⌝ }
-    requires { ⌜ from + length (productsOf bin (now states) (now speeds)) ≤ length (now lane) ⌝ }
-    ensures { λ r.
-        let products = productsOf bin (now (states .entry)) (now (speeds .entry)) in
-        ⌜ (r ≡ dynamicsOf products)
-        × (now (lane .exit) ≡ placed from (sort products) (now (lane .entry))) ⌝ }
+    requires speed_lanes { SpeedLanes states.now speeds.now }
+    requires speeds_in_bounds { from + length (products_of bin states.now speeds.now) ≤ length lane.old }
+    ensures { let products = products_of bin states.now speeds.now in
+        (result ≡ dynamics_of products)
+        × (lane.new ≡ placed from (sort products) lane.old) }
 {
     bin_dynamics(states, speeds, bin, &mut lane[from..])
 }
 
 // The dynamics of a bin, whose products are ranked at the front of the lane.
 fn bin_dynamics(states: &[u8], speeds: &[u16], bin: usize, lane: &mut [u32]) -> Figures
-    requires { ⌜ SpeedLanes (now states) (now speeds) ⌝ }
-    requires { ⌜ length (productsOf bin (now states) (now speeds)) ≤ length (now lane) ⌝ }
-    ensures { λ r.
-        let products = productsOf bin (now (states .entry)) (now (speeds .entry)) in
-        ⌜ (r ≡ dynamicsOf products)
-        × (now (lane .exit) ≡ withFront (sort products) (now (lane .entry))) ⌝ }
+    requires speed_lanes { SpeedLanes states.now speeds.now }
+    requires speeds_in_bounds { length (products_of bin states.now speeds.now) ≤ length lane.old }
+    ensures { let products = products_of bin states.now speeds.now in
+        (result ≡ dynamics_of products)
+        × (lane.new ≡ with_front (sort products) lane.old) }
 {
     let products = acceleration::write_products(states, speeds, bin, lane);
     let count = products.count;

@@ -1,44 +1,42 @@
 -- The kept seconds and windows of a trip.
-use Prim.Native.Nat.{ℕ, _+_}
-use mathlib.Core.List.{List, [], _∷_}
-use lib.ListN.{length}
-use Rattle·base.specs.declared.Plan.{Plan}
-use Rattle·base.specs.Roads.{urban, rural, motorway}
-use Rattle·kept.specs.Kept.{keptOf}
-use Rattle·sweep.specs.Sweep.{beginning, endsAfter}
-use Rattle·sweep.specs.Window as window
-use Rattle·windows.specs.Counts.{classCount}
-use Rattle·found·specs.specs.declared.Found.{Found}
+use Rattle.std.specs.Prelude.{ℕ, ◌+◌, List, [], ◌∷◌, length}
+use Rattle.base.specs.declared.Plan.{Plan}
+use Rattle.base.specs.Roads.{urban, rural, motorway}
+use Rattle.kept.specs.Kept.{kept_of}
+use Rattle.sweep.specs.Sweep.{beginning, ends_after}
+use Rattle.sweep.specs.Window as window
+use Rattle.windows.specs.Counts.{class_count}
+use Rattle.found.specs.declared.Found.{Found}
 
 -- the moves of the sweep run to its end: each kept second is taken, and each window closed
-abbrev pub movesToEnd : ℕ → List ℕ → ℕ
-movesToEnd reference co2 = length co2 + window.windows reference co2
+abbrev pub moves_to_end : ℕ → List ℕ → ℕ
+moves_to_end reference co2 = length co2 + window.windows reference co2
 
 -- what kept seconds come to: "windows, unclassed ones too", and "for each class windows and windows inside"
-unfoldable pub foundIn : Plan → List ℕ → List ℕ → Found
-foundIn plan speeds co2 =
-    let count = classCount plan speeds co2 in
+unfoldable pub found_in : Plan → List ℕ → List ℕ → Found
+found_in plan speeds co2 =
+    let count = class_count plan speeds co2 in
     record {
       kept = length co2;
-      windows = window.windows (plan .reference) co2;
-      moves = movesToEnd (plan .reference) co2;
+      windows = window.windows plan.reference co2;
+      moves = moves_to_end plan.reference co2;
       classes = count urban ∷ count rural ∷ count motorway ∷ [];
     }
 
 -- the lane of ends, "with the sweep run to its end"
-unfoldable pub endsIn : Plan → List ℕ → List ℕ → List ℕ
-endsIn plan co2 ends = endsAfter (plan .reference) co2 (movesToEnd (plan .reference) co2) beginning ends
+unfoldable pub ends_in : Plan → List ℕ → List ℕ → List ℕ
+ends_in plan co2 ends = ends_after plan.reference co2 (moves_to_end plan.reference co2) beginning ends
 
 -- "Kept speeds and CO2 masses stand in order in lanes of their own."
-abbrev pub keptSpeeds : List ℕ → List ℕ → List ℕ
-keptSpeeds states speeds = keptOf states speeds speeds
+abbrev pub kept_speed_values : List ℕ → List ℕ → List ℕ
+kept_speed_values states speeds = kept_of states speeds speeds
 
-abbrev pub keptCo2 : List ℕ → List ℕ → List ℕ → List ℕ
-keptCo2 states speeds co2 = keptOf states speeds co2
+abbrev pub kept_co2_values : List ℕ → List ℕ → List ℕ → List ℕ
+kept_co2_values states speeds co2 = kept_of states speeds co2
 
 -- what a trip's lanes come to, and their lane of ends
-abbrev pub foundOf : Plan → List ℕ → List ℕ → List ℕ → Found
-foundOf plan states speeds co2 = foundIn plan (keptSpeeds states speeds) (keptCo2 states speeds co2)
+abbrev pub found_of : Plan → List ℕ → List ℕ → List ℕ → Found
+found_of plan states speeds co2 = found_in plan (kept_speed_values states speeds) (kept_co2_values states speeds co2)
 
-abbrev pub endsOf : Plan → List ℕ → List ℕ → List ℕ → List ℕ → List ℕ
-endsOf plan states speeds co2 ends = endsIn plan (keptCo2 states speeds co2) ends
+abbrev pub ends_of : Plan → List ℕ → List ℕ → List ℕ → List ℕ → List ℕ
+ends_of plan states speeds co2 ends = ends_in plan (kept_co2_values states speeds co2) ends

@@ -1,18 +1,19 @@
 // The kept seconds of a trip, its sweep run to the end, and its windows counted class by class.
 
+ghost use Rattle.std.specs.Prelude.{◌≡◌, length};
+ghost use Rattle.base.specs.Words.{with_front};
+ghost use Rattle.kept.specs.Kept.{kept_of};
+ghost use Rattle.sweep.specs.Sweep.{beginning, ends_after};
+ghost use Rattle.sweep.specs.Window as window;
+ghost use Rattle.found.specs.Found.{moves_to_end, found_in, ends_in};
+ghost use Rattle.found.specs.Inside.{Findable, Kept, Sweepable, three_of};
+
 use base::Plan;
 use sweep::SweepState;
 use windows::ClassCount;
-ghost use mathlib.Core.Path.{_≡_};
-ghost use lib.ListN.{length};
-ghost use Rattle·base.specs.Words.{withFront};
-ghost use Rattle·kept.specs.Kept.{keptOf};
-ghost use Rattle·sweep.specs.Sweep.{beginning, endsAfter};
-ghost use Rattle·sweep.specs.Window as window;
-ghost use Rattle·found·specs.specs.Found.{movesToEnd, foundIn, endsIn};
-ghost use Rattle·found·specs.specs.Inside.{Findable, Kept, Sweepable, threeOf};
 
 // The kept seconds and windows of a trip.
+#[derive(Drop)]
 pub struct Found {
     pub kept: u32,
     pub windows: u32, // unclassed ones too
@@ -31,15 +32,14 @@ pub fn find(
     kept_co2: &mut [u32],
     ends: &mut [u16],
 ) -> Found
-    requires { ⌜ Findable plan (now states) (now speeds) (now co2) (length (now «kept_speeds»)) (length (now «kept_co2»)) (length (now ends)) ⌝ }
-    ensures { λ r.
-        let keeps = keptOf (now (states .entry)) (now (speeds .entry)) in
-        let keptSpeeds = keeps (now (speeds .entry)) in
-        let keptCo2 = keeps (now (co2 .entry)) in
-        ⌜ (r ≡ foundIn plan keptSpeeds keptCo2)
-        × (now («kept_speeds» .exit) ≡ withFront keptSpeeds (now («kept_speeds» .entry)))
-        × (now («kept_co2» .exit) ≡ withFront keptCo2 (now («kept_co2» .entry)))
-        × (now (ends .exit) ≡ endsIn plan keptCo2 (now (ends .entry))) ⌝ }
+    requires { Findable plan states.now speeds.now co2.now (length kept_speeds.old) (length kept_co2.old) (length ends.old) }
+    ensures { let keeps = kept_of states.now speeds.now in
+        let kept_speed_values = keeps speeds.now in
+        let kept_co2_values = keeps co2.now in
+        (result ≡ found_in plan kept_speed_values kept_co2_values)
+        × (kept_speeds.new ≡ with_front kept_speed_values kept_speeds.old)
+        × (kept_co2.new ≡ with_front kept_co2_values kept_co2.old)
+        × (ends.new ≡ ends_in plan kept_co2_values ends.old) }
 {
     let count = kept::keep(states, speeds, co2, kept_speeds, kept_co2);
     find_in(plan, &kept_speeds[..count], &kept_co2[..count], ends)
@@ -47,11 +47,10 @@ pub fn find(
 
 // Sweeps kept seconds to the end and counts the windows.
 fn find_in(plan: Plan, speeds: &[u16], co2: &[u32], ends: &mut [u16]) -> Found
-    requires { ⌜ Kept plan (now speeds) (now co2) (length (now ends)) ⌝ }
-    ensures { λ r.
-        let masses = now (co2 .entry) in
-        ⌜ (r ≡ foundIn plan (now (speeds .entry)) masses)
-        × (now (ends .exit) ≡ endsIn plan masses (now (ends .entry))) ⌝ }
+    requires { Kept plan speeds.now co2.now (length ends.old) }
+    ensures { let masses = co2.now in
+        (result ≡ found_in plan speeds.now masses)
+        × (ends.new ≡ ends_in plan masses ends.old) }
 {
     let swept = sweep_all(plan.reference, co2, ends);
     let windows = swept.dropped as usize;
@@ -67,13 +66,12 @@ fn find_in(plan: Plan, speeds: &[u16], co2: &[u32], ends: &mut [u16]) -> Found
 // Sweeps the kept seconds from the beginning to the end: twice as many moves as there are kept
 // seconds are enough, since each is taken once and dropped once at most.
 fn sweep_all(reference: u32, co2: &[u32], ends: &mut [u16]) -> SweepState
-    requires { ⌜ Sweepable reference (now co2) (length (now ends)) ⌝ }
-    ensures { λ r.
-        let masses = now (co2 .entry) in
-        let moves = movesToEnd reference masses in
-        ⌜ (r .dropped ≡ window.windows reference masses)
-        × (r .moves ≡ moves)
-        × (now (ends .exit) ≡ endsAfter reference masses moves beginning (now (ends .entry))) ⌝ }
+    requires { Sweepable reference co2.now (length ends.old) }
+    ensures { let masses = co2.now in
+        let moves = moves_to_end reference masses in
+        (result.dropped ≡ window.windows reference masses)
+        × (result.moves ≡ moves)
+        × (ends.new ≡ ends_after reference masses moves beginning ends.old) }
 {
     let start = SweepState {
         taken: 0,
@@ -88,7 +86,7 @@ fn sweep_all(reference: u32, co2: &[u32], ends: &mut [u16]) -> SweepState
 
 // The counts of the three classes, without that of windows that have none.
 fn three_of(all: [ClassCount; 4]) -> [ClassCount; 3]
-    ensures { λ r. ⌜ r ≡ threeOf all ⌝ }
+    ensures { result ≡ three_of all }
 {
     [
         all[base::road::URBAN],

@@ -1,60 +1,60 @@
 -- Enough bytes settle a stream's answer, whatever they are. Assumes nothing.
-use Prim.Native.Nat.{ℕ, _+_, _*_, _-_, _≤_, _<_}
-use mathlib.Core.Path.{_≡_, refl, sym, _∙_, ap}
+use Prim.Native.Nat.{ℕ, ◌+◌, ◌*◌, ◌-◌, ◌≤◌, ◌<◌}
+use mathlib.Core.Path.{◌≡◌, refl, sym, ◌∙◌, ap}
 use mathlib.Core.Bool.{Bool, true, false}
-use mathlib.Core.List.{List, _++_}
+use mathlib.Core.List.{List, ◌++◌}
 use native.Mathlib.Omega.{arith}
 use lib.Dec.{eqb}
 use lib.ListN.{length, drop, length-append, length-drop}
-use Rattle·base.specs.Words.{pick}
-use Rattle·stream.specs.Items.{Walk}
-use Rattle·stream.proofs.Splitting.{Anywhere, Ends, ends-through, ends-stopped, walk-stops}
-use Rattle·base.specs.Limits.{tripLimit}
-use Rattle·reader.specs.declared.Reader.{Reader}
-use Rattle·reader.specs.Reader.{carryPlaces, heldIn, standingOf, started, readerAt}
-use Rattle·reader.specs.Inside.{waiting, settled, offsetMost, wasMade}
-use Rattle·reader.specs.Blocks.{standsAfter, readerAfter}
-use Rattle·reader.proofs.Feeding.{reader-open}
-use Rattle·reader.proofs.Making.{usable, held-length, start-made, start-places, feeding-made}
-use Rattle·reader.proofs.Carry.{places-are}
-use Rattle·reader.proofs.Offsets.{offset-most}
+use Rattle.base.specs.Words.{pick}
+use Rattle.stream.specs.Items.{Walk}
+use Rattle.stream.proofs.Splitting.{Anywhere, Ends, ends_through, ends_stopped, walk_stops}
+use Rattle.base.specs.Limits.{trip_limit}
+use Rattle.reader.specs.declared.Reader.{Reader}
+use Rattle.reader.specs.Reader.{carry_places, held_in, standing_of, started, reader_at}
+use Rattle.reader.specs.Inside.{waiting, settled, offset_most, was_made}
+use Rattle.reader.specs.Blocks.{stands_after, reader_after}
+use Rattle.reader.proofs.Feeding.{reader_open}
+use Rattle.reader.proofs.Making.{usable, held_length, start_made, start_places, feeding_made}
+use Rattle.reader.proofs.Carry.{places_are}
+use Rattle.reader.proofs.Offsets.{offset_most_lem}
 
 -- how many bytes of the stream a reader has seen that is not settled
-abbrev pub seenBy : Reader → ℕ
-seenBy r = r .at + r .count
+abbrev pub seen_by : Reader → ℕ
+seen_by r = r.at + r.count
 
 -- the bytes that settle every stream: as many as stand before the highest offset, and one item more
 abbrev pub enough : ℕ
-enough = offsetMost + carryPlaces
+enough = offset_most + carry_places
 
-pub enough-is : enough ≡ 21 + tripLimit * 23 + 23
-enough-is = rw (offset-most, places-are) refl
+pub enough_is : enough ≡ 21 + trip_limit * 23 + 23
+enough_is = rw (offset_most_lem, places_are) refl
 
 -- a walk that leaves the answer unsettled has seen all bytes
-unsettled-walk : (room at : ℕ) (bytes : List ℕ) (w : Walk) → Ends room Anywhere at bytes w → standsAfter at bytes w .refusal ≡ 0 → seenBy (standsAfter at bytes w) ≡ at + length bytes
-unfolding standsAfter readerAt
-unsettled-walk room at bytes _ (ends-through s p) unsettled = omega arith
-unsettled-walk room at bytes _ (ends-stopped s number place t p) unsettled = go (eqb number 7) unsettled
+unsettled_walk : (room at : ℕ) (bytes : List ℕ) (w : Walk) → Ends room Anywhere at bytes w → (stands_after at bytes w).refusal ≡ 0 → seen_by (stands_after at bytes w) ≡ at + length bytes
+unfolding stands_after reader_at
+unsettled_walk room at bytes _ (ends_through s p) unsettled = omega arith
+unsettled_walk room at bytes _ (ends_stopped s number place t p) unsettled = go (eqb number 7) unsettled
   where
-    go : (c : Bool) → pick c (waiting s place (drop (place - at) bytes)) (settled s number place) .refusal ≡ 0 → seenBy (pick c (waiting s place (drop (place - at) bytes)) (settled s number place)) ≡ at + length bytes
-    go true o = omega (arith, length-drop (place - at) bytes, t .from, t .inside)
-    go false o = absurd (t .bad o)
+    go : (c : Bool) → (pick c (waiting s place (drop (place - at) bytes)) (settled s number place)).refusal ≡ 0 → seen_by (pick c (waiting s place (drop (place - at) bytes)) (settled s number place)) ≡ at + length bytes
+    go true o = omega (arith, length-drop (place - at) bytes, t.from, t.inside)
+    go false o = absurd (t.bad o)
 
 -- a reader whose answer stays unsettled has seen the bytes of the block
-pub seen-more : (room : ℕ) (r : Reader) (block : List ℕ) → wasMade r ≡ true → length (r .held) ≡ carryPlaces → r .refusal ≡ 0 → readerAfter room r block .refusal ≡ 0 → seenBy (readerAfter room r block) ≡ seenBy r + length block
-seen-more room r block made long unsettled still =
-    let bytes = heldIn r ++ block in
-    let here = reader-open room r block unsettled in
-    let seen = unsettled-walk room (r .at) bytes _ (walk-stops room (standingOf r) (r .at) bytes) (ap (λ (r : Reader). r .refusal) (sym here) ∙ still) in
-    ap seenBy here ∙ seen ∙ omega (arith, length-append (heldIn r) block, held-length r (usable r made) long)
+pub seen_more : (room : ℕ) (r : Reader) (block : List ℕ) → was_made r ≡ true → length r.held ≡ carry_places → r.refusal ≡ 0 → (reader_after room r block).refusal ≡ 0 → seen_by (reader_after room r block) ≡ seen_by r + length block
+seen_more room r block made long unsettled still =
+    let bytes = held_in r ++ block in
+    let here = reader_open room r block unsettled in
+    let seen = unsettled_walk room r.at bytes _ (walk_stops room (standing_of r) r.at bytes) (ap (λ (r : Reader). r.refusal) (sym here) ∙ still) in
+    ap seen_by here ∙ seen ∙ omega (arith, length-append (held_in r) block, held_length r (usable r made) long)
 
 -- but never enough
-pub seen-most : (r : Reader) → wasMade r ≡ true → seenBy r < enough
-seen-most r made = let u = usable r made in omega (arith, u .few, u .at-most)
+pub seen_most : (r : Reader) → was_made r ≡ true → seen_by r < enough
+seen_most r made = let u = usable r made in omega (arith, u.few, u.at_most)
 
 -- so they settle every stream
-pub settled-at-last : (room : ℕ) (stream : List ℕ) → enough ≤ length stream → readerAfter room started stream .refusal ≡ 0 → ⊥
-unfolding readerAt
-settled-at-last room stream long unsettled =
-    let made = feeding-made started start-made room stream in
-    omega (arith, seen-more room started stream start-made start-places refl unsettled, seen-most (readerAfter room started stream) made)
+pub settled_at_last : (room : ℕ) (stream : List ℕ) → enough ≤ length stream → (reader_after room started stream).refusal ≡ 0 → ⊥
+unfolding reader_at
+settled_at_last room stream long unsettled =
+    let made = feeding_made started start_made room stream in
+    omega (arith, seen_more room started stream start_made start_places refl unsettled, seen_most (reader_after room started stream) made)

@@ -2,16 +2,14 @@
 // item, or to a read that fails. No contract can say which bytes a call of C moves; the contracts
 // here say what is made of the bytes that came. specs/Input.antt says what is right.
 
+ghost use Rattle.std.specs.Prelude.{◌≡◌, false, ◌≤◌, length, take};
+ghost use Rattle.second.specs.Lanes.{lanes_of};
+ghost use Rattle.input.specs.Inside.{Unsettled, HasFed};
+ghost use Rattle.input.specs.Input.{block_most, reads_on, HasRead};
+
 use base::limits;
 use item::kind;
 use reader::Reader;
-ghost use mathlib.Core.Path.{_≡_};
-ghost use mathlib.Core.Bool.{false};
-ghost use Prim.Native.Nat.{_≤_};
-ghost use lib.ListN.{length, take};
-ghost use Rattle·second.specs.Lanes.{lanesOf};
-ghost use Rattle·input·specs.specs.Inside.{Unsettled, HasFed};
-ghost use Rattle·input·specs.specs.Input.{blockMost, goesOn, HasRead};
 
 // The most bytes of one read.
 pub const BLOCK: usize = 4_096;
@@ -21,6 +19,7 @@ pub const BLOCK: usize = 4_096;
 const READS: usize = kind::PLAN_SIZE + limits::TRIP * kind::LONGEST_SECOND + kind::LONGEST;
 
 // Where the reading of the input stands.
+#[derive(Drop)]
 pub struct Input {
     pub reader: Reader,
     pub came: usize, // how many bytes the last read brought
@@ -40,12 +39,11 @@ pub fn read_input(
     counts: &mut [u64],
     marks: &mut [u8],
 ) -> Input
-    requires { ⌜ length (now block) ≡ blockMost ⌝ }
-    ensures read { λ r.
-        let before = lanesOf (now (states .entry)) (now (speeds .entry)) (now (altitudes .entry)) (now (co2 .entry)) (now (nox .entry)) (now (counts .entry)) (now (marks .entry)) in
-        let after = lanesOf (now (states .exit)) (now (speeds .exit)) (now (altitudes .exit)) (now (co2 .exit)) (now (nox .exit)) (now (counts .exit)) (now (marks .exit)) in
-        ⌜ HasRead before (r .reader) after ⌝ }
-    ensures ended { λ r. ⌜ goesOn r ≡ false ⌝ }
+    requires { length block.old ≡ block_most }
+    ensures read { let before = lanes_of states.old speeds.old altitudes.old co2.old nox.old counts.old marks.old in
+        let after = lanes_of states.new speeds.new altitudes.new co2.new nox.new counts.new marks.new in
+        HasRead before result.reader after }
+    ensures ended { reads_on result ≡ false }
 {
     let mut input = Input {
         reader: reader::start(),
@@ -57,15 +55,7 @@ pub fn read_input(
     while reads > 0 && input.more {
         let reader = input.reader;
         input = read_block(
-            reader,
-            block,
-            states,
-            speeds,
-            altitudes,
-            co2,
-            nox,
-            counts,
-            marks,
+            reader, block, states, speeds, altitudes, co2, nox, counts, marks,
         );
         reads -= 1;
     }
@@ -85,14 +75,13 @@ fn read_block(
     counts: &mut [u64],
     marks: &mut [u8],
 ) -> Input
-    requires { ⌜ Unsettled reader ⌝ }
-    requires { ⌜ length (now block) ≡ blockMost ⌝ }
-    ensures fed { λ r.
-        let before = lanesOf (now (states .entry)) (now (speeds .entry)) (now (altitudes .entry)) (now (co2 .entry)) (now (nox .entry)) (now (counts .entry)) (now (marks .entry)) in
-        let after = lanesOf (now (states .exit)) (now (speeds .exit)) (now (altitudes .exit)) (now (co2 .exit)) (now (nox .exit)) (now (counts .exit)) (now (marks .exit)) in
-        ⌜ HasFed before reader (take (r .came) (now (block .exit))) (r .reader) after ⌝ }
-    ensures within { λ r. ⌜ r .came ≤ blockMost ⌝ }
-    ensures goes_on { λ r. ⌜ r .more ≡ goesOn r ⌝ }
+    requires unsettled { Unsettled reader }
+    requires block_len { length block.old ≡ block_most }
+    ensures fed { let before = lanes_of states.old speeds.old altitudes.old co2.old nox.old counts.old marks.old in
+        let after = lanes_of states.new speeds.new altitudes.new co2.new nox.new counts.new marks.new in
+        HasFed before reader (take result.came block.new) result.reader after }
+    ensures within { result.came ≤ block_most }
+    ensures goes_on { result.more ≡ reads_on result }
 {
     let got = libc::read(libc::STDIN_FILENO, block);
     let came = io::count(got, block);

@@ -1,20 +1,19 @@
 -- What the steps inside the program may take for granted.
-use mathlib.Core.Path.{_≡_}
-use lib.ListN.{length}
-use Rattle·second.specs.Lanes.{Lanes}
-use Rattle·trip.specs.declared.Rooms.{Rooms}
-use Rattle·judge·specs.specs.Judged.{placesLent}
+use Rattle.std.specs.Prelude.{◌≡◌, length}
+use Rattle.second.specs.Lanes.{Lanes}
+use Rattle.trip.specs.declared.Rooms.{Rooms}
+use Rattle.judge.specs.Judged.{places_lent}
 
 -- the lanes have the places that the program lends
 pub record HasPlaces (lanes : Lanes) (rooms : Rooms) : Type 0 where
-  pub in-states : length (lanes .states) ≡ placesLent
-  pub in-speeds : length (lanes .speeds) ≡ placesLent
-  pub in-altitudes : length (lanes .altitudes) ≡ placesLent
-  pub in-co2 : length (lanes .co2) ≡ placesLent
-  pub in-nox : length (lanes .nox) ≡ placesLent
-  pub in-counts : length (lanes .counts) ≡ placesLent
-  pub in-marks : length (lanes .marks) ≡ placesLent
-  pub in-kept-speeds : rooms .speeds ≡ placesLent
-  pub in-kept-co2 : rooms .co2 ≡ placesLent
-  pub in-ends : rooms .ends ≡ placesLent
-  pub in-ranks : rooms .ranks ≡ placesLent
+  pub in_states : length lanes.states ≡ places_lent
+  pub in_speeds : length lanes.speeds ≡ places_lent
+  pub in_altitudes : length lanes.altitudes ≡ places_lent
+  pub in_co2 : length lanes.co2 ≡ places_lent
+  pub in_nox : length lanes.nox ≡ places_lent
+  pub in_counts : length lanes.counts ≡ places_lent
+  pub in_marks : length lanes.marks ≡ places_lent
+  pub in_kept_speeds : rooms.speeds ≡ places_lent
+  pub in_kept_co2 : rooms.co2 ≡ places_lent
+  pub in_ends : rooms.ends ≡ places_lent
+  pub in_ranks : rooms.ranks ≡ places_lent

@@ -4,18 +4,17 @@
 // contracts here say what is made of the bytes that came, up to the text in the buffer that is
 // written out.
 
+ghost use Rattle.std.specs.Prelude.{◌≡◌, true, false, length};
+ghost use Rattle.base.specs.Words.{with_front};
+ghost use Rattle.second.specs.Lanes.{lanes_of};
+ghost use Rattle.trip.specs.Lent.{lent_of, rooms_in};
+ghost use Rattle.report.specs.Lines.{longest_text};
+ghost use Rattle.printed.specs.Printed.{printed_text, lent_after};
+ghost use Rattle.input.specs.Input.{block_most};
+ghost use Rattle.judge.specs.Inside.{HasPlaces};
+ghost use Rattle.judge.specs.Judged.{JudgedAsOne};
+
 use stream::ReadAnswer;
-ghost use mathlib.Core.Path.{_≡_};
-ghost use mathlib.Core.Bool.{true, false};
-ghost use lib.ListN.{length};
-ghost use Rattle·base.specs.Words.{withFront};
-ghost use Rattle·second.specs.Lanes.{lanesOf};
-ghost use Rattle·trip.specs.Lent.{lentOf, roomsIn};
-ghost use Rattle·report.specs.Lines.{longestText};
-ghost use Rattle·printed.specs.Printed.{printedText, lentAfter};
-ghost use Rattle·input.specs.Input.{blockMost};
-ghost use Rattle·judge·specs.specs.Inside.{HasPlaces};
-ghost use Rattle·judge·specs.specs.Judged.{JudgedAsOne};
 
 // The places of each lane that the program lends, a second in each. No lane passes 64 KiB.
 const PLACES: usize = 8_192;
@@ -74,14 +73,13 @@ fn judge_input(
     ranks: &mut [u32],
     text: &mut [u8],
 ) -> bool
-    requires { ⌜ length (now block) ≡ blockMost ⌝ }
-    requires { ⌜ HasPlaces (lanesOf (now states) (now speeds) (now altitudes) (now co2) (now nox) (now counts) (now marks)) (roomsIn (lentOf (now «kept_speeds») (now «kept_co2») (now ends) (now ranks))) ⌝ }
-    requires { ⌜ length (now text) ≡ longestText ⌝ }
-    ensures judged { λ r.
-        let lanes = lanesOf (now (states .entry)) (now (speeds .entry)) (now (altitudes .entry)) (now (co2 .entry)) (now (nox .entry)) (now (counts .entry)) (now (marks .entry)) in
-        let rooms = roomsIn (lentOf (now («kept_speeds» .entry)) (now («kept_co2» .entry)) (now (ends .entry)) (now (ranks .entry))) in
-        ⌜ (r ≡ true → JudgedAsOne lanes rooms (now (text .entry)) (now (text .exit))) ⌝ }
-    ensures unjudged { λ r. ⌜ (r ≡ false → now (text .exit) ≡ now (text .entry)) ⌝ }
+    requires block_len { length block.old ≡ block_most }
+    requires has_places { HasPlaces (lanes_of states.old speeds.old altitudes.old co2.old nox.old counts.old marks.old) (rooms_in (lent_of kept_speeds.old kept_co2.old ends.old ranks.old)) }
+    requires text_len { length text.old ≡ longest_text }
+    ensures judged { let lanes = lanes_of states.old speeds.old altitudes.old co2.old nox.old counts.old marks.old in
+        let rooms = rooms_in (lent_of kept_speeds.old kept_co2.old ends.old ranks.old) in
+        (result ≡ true → JudgedAsOne lanes rooms text.old text.new) }
+    ensures unjudged { result ≡ false → text.new ≡ text.old }
 {
     let input = input::read_input(block, states, speeds, altitudes, co2, nox, counts, marks);
     let reader = input.reader;
@@ -122,13 +120,12 @@ fn print_answer(
     ranks: &mut [u32],
     text: &mut [u8],
 )
-    requires { ⌜ length (now text) ≡ longestText ⌝ }
-    ensures { λ _.
-        let lanes = lanesOf (now (states .entry)) (now (speeds .entry)) (now (altitudes .entry)) (now (co2 .entry)) (now (nox .entry)) (now (counts .entry)) (now (marks .entry)) in
-        let lent = lentOf (now («kept_speeds» .entry)) (now («kept_co2» .entry)) (now (ends .entry)) (now (ranks .entry)) in
-        let left = lentOf (now («kept_speeds» .exit)) (now («kept_co2» .exit)) (now (ends .exit)) (now (ranks .exit)) in
-        ⌜ (now (text .exit) ≡ withFront (printedText read lanes (roomsIn lent)) (now (text .entry)))
-        × (left ≡ lentAfter read lanes lent) ⌝ }
+    requires { length text.old ≡ longest_text }
+    ensures { let lanes = lanes_of states.now speeds.now altitudes.now co2.now nox.now counts.now marks.now in
+        let lent = lent_of kept_speeds.old kept_co2.old ends.old ranks.old in
+        let left = lent_of kept_speeds.new kept_co2.new ends.new ranks.new in
+        (text.new ≡ with_front (printed_text read lanes (rooms_in lent)) text.old)
+        × (left ≡ lent_after read lanes lent) }
 {
     let length = printed::write_text(
         read,

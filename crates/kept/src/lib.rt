@@ -1,11 +1,10 @@
 // Kept seconds (Appendix 5): those in state 1 with a speed of at least 100. Their speeds and CO2
 // masses stand in order in lanes of their own.
 
-ghost use mathlib.Core.Path.{_≡_};
-ghost use lib.ListN.{length};
-ghost use Rattle·base.specs.Words.{withFront};
-ghost use Rattle·kept·specs.specs.Kept.{secondKept, keptOf};
-ghost use Rattle·kept·specs.specs.Inside.{KeptLanes};
+ghost use Rattle.std.specs.Prelude.{◌≡◌, length};
+ghost use Rattle.base.specs.Words.{with_front};
+ghost use Rattle.kept.specs.Kept.{second_kept, kept_of};
+ghost use Rattle.kept.specs.Inside.{KeptLanes};
 
 // The slowest speed of a kept second, 0.01 km/h.
 const SLOWEST: u16 = 100;
@@ -19,12 +18,11 @@ pub fn keep(
     kept_speeds: &mut [u16],
     kept_co2: &mut [u32],
 ) -> usize
-    requires { ⌜ KeptLanes (now states) (now speeds) (now co2) (length (now «kept_speeds»)) (length (now «kept_co2»)) ⌝ }
-    ensures { λ r.
-        let keeps = keptOf (now (states .entry)) (now (speeds .entry)) in
-        ⌜ (r ≡ length (keeps (now (co2 .entry))))
-        × (now («kept_speeds» .exit) ≡ withFront (keeps (now (speeds .entry))) (now («kept_speeds» .entry)))
-        × (now («kept_co2» .exit) ≡ withFront (keeps (now (co2 .entry))) (now («kept_co2» .entry))) ⌝ }
+    requires { KeptLanes states.now speeds.now co2.now (length kept_speeds.old) (length kept_co2.old) }
+    ensures { let keeps = kept_of states.now speeds.now in
+        (result ≡ length (keeps co2.now))
+        × (kept_speeds.new ≡ with_front (keeps speeds.now) kept_speeds.old)
+        × (kept_co2.new ≡ with_front (keeps co2.now) kept_co2.old) }
 {
     let mut count = 0;
     let mut i = 0;
@@ -44,7 +42,7 @@ pub fn keep(
 
 // Whether a second with this state and speed is kept.
 fn is_kept(state: u8, speed: u16) -> bool
-    ensures { λ r. ⌜ r ≡ secondKept state speed ⌝ }
+    ensures { result ≡ second_kept state speed }
 {
     (state == base::state::MEASURED) & (SLOWEST <= speed)
 }

@@ -2,14 +2,12 @@
 // in two words where a product passes 64 bits. They hold for sums of any size that the types hold.
 // s and n are the bin's sums of speeds and seconds, t the sum of its products, q its percentile.
 
-ghost use mathlib.Core.Path.{_≡_};
-ghost use Prim.Native.Nat.{_+_, _*_};
-ghost use lib.Dec.{ltb};
-ghost use Rattle·lively·specs.specs.Lively.{tooLively, tooDull, belowCurve};
+ghost use Rattle.std.specs.Prelude.{◌≡◌, ◌+◌, ◌*◌, ltb};
+ghost use Rattle.lively.specs.Lively.{too_lively, too_dull, below_curve};
 
 // Whether a bin is too lively.
 pub fn too_lively(s: u32, n: u32, q: u64) -> bool
-    ensures { λ r. ⌜ r ≡ tooLively s n q ⌝ }
+    ensures { result ≡ too_lively s n q }
 {
     if s as u64 <= 7_460 * (n as u64) {
         return above_line(s, n, q, 5, 176_256, 1_871_424_000);
@@ -19,7 +17,7 @@ pub fn too_lively(s: u32, n: u32, q: u64) -> bool
 
 // Whether k times q times n is above a times s plus b times n.
 fn above_line(s: u32, n: u32, q: u64, k: u32, a: u64, b: u64) -> bool
-    ensures { λ r. ⌜ r ≡ ltb (a * s + b * n) (k * q * n) ⌝ }
+    ensures { result ≡ ltb (a * s + b * n) (k * q * n) }
 {
     let line = wide::sum(wide::product(a, s as u64), wide::product(b, n as u64));
     wide::less(line, wide::product(q, k as u64 * (n as u64)))
@@ -27,7 +25,7 @@ fn above_line(s: u32, n: u32, q: u64, k: u32, a: u64, b: u64) -> bool
 
 // Whether a bin is too dull.
 pub fn too_dull(s: u32, n: u32, t: u64) -> bool
-    ensures { λ r. ⌜ r ≡ tooDull s n t ⌝ }
+    ensures { result ≡ too_dull s n t }
 {
     if s as u64 <= 9_405 * (n as u64) {
         return below_curve(s, n, t);
@@ -37,7 +35,7 @@ pub fn too_dull(s: u32, n: u32, t: u64) -> bool
 
 // Whether t lies below the curve that bounds slow bins.
 fn below_curve(s: u32, n: u32, t: u64) -> bool
-    ensures { λ r. ⌜ r ≡ belowCurve s n t ⌝ }
+    ensures { result ≡ below_curve s n t }
 {
     let speed = s as u64;
     let seconds = n as u64;

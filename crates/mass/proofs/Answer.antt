@@ -1,29 +1,29 @@
 -- The answer, case by case: what each test of the mass step leads to. Assumes nothing.
-use Prim.Native.Nat.{ℕ, _≤_, _<_}
-use mathlib.Core.Path.{_≡_}
+use Prim.Native.Nat.{ℕ, ◌≤◌, ◌<◌}
+use mathlib.Core.Path.{◌≡◌}
 use mathlib.Core.Bool.{true, false}
 use lib.Ieee.{Float}
 use borrow.Author.Tests.{le-leb, lt-leb}
-use Rattle·mass·specs.specs.declared.Reading.{Reading}
-use Rattle·mass·specs.specs.declared.Setting.{Setting}
-use Rattle·mass·specs.specs.declared.Weighed.the-variants.{Mass, BadInput, TooLarge}
-use Rattle·mass·specs.specs.Mass.{readingInRange, settingInRange, lastProduct, wholePart, massAnswer}
+use Rattle.mass.specs.declared.Reading.{Reading}
+use Rattle.mass.specs.declared.Setting.{Setting}
+use Rattle.mass.specs.declared.Weighed.TheVariants.{Mass, BadInput, TooLarge}
+use Rattle.mass.specs.Mass.{reading_in_range, setting_in_range, last_product, whole_part, mass_answer}
 
 module _ (scale : Float) (limit : ℕ) (reading : Reading) (s : Setting) where
-  pub bad-reading : readingInRange reading ≡ false → massAnswer scale limit reading s ≡ BadInput
-  unfolding massAnswer
-  bad-reading r = rw r
+  pub bad_reading : reading_in_range reading ≡ false → mass_answer scale limit reading s ≡ BadInput
+  unfolding mass_answer
+  bad_reading r = rw r
 
-  module _ (r : readingInRange reading ≡ true) where
-    pub bad-setting : settingInRange s ≡ false → massAnswer scale limit reading s ≡ BadInput
-    unfolding massAnswer
-    bad-setting h = rw (r, h)
+  module _ (r : reading_in_range reading ≡ true) where
+    pub bad_setting : setting_in_range s ≡ false → mass_answer scale limit reading s ≡ BadInput
+    unfolding mass_answer
+    bad_setting h = rw (r, h)
 
-    module _ (h : settingInRange s ≡ true) {w : ℕ} (is : w ≡ wholePart (lastProduct scale reading s)) where
-      pub whole-mass : w ≤ limit → massAnswer scale limit reading s ≡ Mass w
-      unfolding massAnswer
-      whole-mass small = rw (r, h, ← is, le-leb w limit small)
+    module _ (h : setting_in_range s ≡ true) {w : ℕ} (is : w ≡ whole_part (last_product scale reading s)) where
+      pub whole_mass : w ≤ limit → mass_answer scale limit reading s ≡ Mass w
+      unfolding mass_answer
+      whole_mass small = rw (r, h, ← is, le-leb w limit small)
 
-      pub too-large : limit < w → massAnswer scale limit reading s ≡ TooLarge
-      unfolding massAnswer
-      too-large large = rw (r, h, ← is, lt-leb w limit large)
+      pub too_large : limit < w → mass_answer scale limit reading s ≡ TooLarge
+      unfolding mass_answer
+      too_large large = rw (r, h, ← is, lt-leb w limit large)

@@ -1,106 +1,106 @@
 -- What the definitions of the mass step amount to: refused exactly when, the floor, a zero of either sign. Assumes nothing.
-use Prim.Native.Nat.{ℕ, _+_, _*_, _/_, _≤_, _<_}
-use mathlib.Core.Path.{_≡_, refl, sym}
-use mathlib.Core.Bool.{Bool, true, false, _&&_}
-use mathlib.Core.Logic.{_↔_}
-use native.Mathlib.Nat.{div-mul-le-self, lt-div-mul-add, add-mul, one-mul, zero-mul, zero-div}
+use Prim.Native.Nat.{ℕ, ◌+◌, ◌*◌, ◌/◌, ◌≤◌, ◌<◌}
+use mathlib.Core.Path.{◌≡◌, refl, sym}
+use mathlib.Core.Bool.{Bool, true, false, ◌&&◌}
+use mathlib.Core.Logic.{◌↔◌}
+use native.Mathlib.Nat.{div-mul-le_self, lt-div-mul-add, add-mul, one-mul, zero-mul, zero-div}
 use native.Mathlib.Omega.{arith}
 use lib.Dec.{leb, lit≤}
 use lib.IntN.{ℤ, pos}
-use lib.Ieee.{Float, fin, ofInt, le, lt, eq, up, down}
-use lib.Ieee.Fits.{down-pos}
+use lib.Ieee.{Float, fin, of_int, le, lt, eq, up, down}
+use lib.Ieee.Fits.{down_pos}
 use borrow.Author.Tests.{leb-true, leb-false, le-leb, lt-leb}
-use Rattle·base.specs.Words.{pick}
-use Rattle·mass·specs.specs.declared.Reading.{Reading}
-use Rattle·mass·specs.specs.declared.Reading.the-variants.{WetPpm, DryPpm, WetPercent, DryPercent}
-use Rattle·mass·specs.specs.declared.Setting.{Setting}
-use Rattle·mass·specs.specs.declared.Weighed.{Weighed}
-use Rattle·mass·specs.specs.declared.Weighed.the-variants.{Mass, BadInput, TooLarge}
-use Rattle·mass·specs.specs.Inside.{Bounded, bounded}
-use Rattle·mass·specs.specs.Mass.{zeroTo, readingInRange, settingInRange, lastProduct, wholePart, massAnswer}
-use Rattle·mass·specs.specs.Outcomes.{Outcome, bad-input, too-large, fine}
-use Rattle·mass·proofs.proofs.Products.{times-bounded}
-use Rattle·mass·proofs.proofs.Inputs.{inPpm, setting-bounded, ppm-in-percent, wet-at-most, wet-bounded}
-use Rattle·mass·proofs.proofs.Answer.{whole-mass}
+use Rattle.base.specs.Words.{pick}
+use Rattle.mass.specs.declared.Reading.{Reading}
+use Rattle.mass.specs.declared.Reading.TheVariants.{WetPpm, DryPpm, WetPercent, DryPercent}
+use Rattle.mass.specs.declared.Setting.{Setting}
+use Rattle.mass.specs.declared.Weighed.{Weighed}
+use Rattle.mass.specs.declared.Weighed.TheVariants.{Mass, BadInput, TooLarge}
+use Rattle.mass.specs.Inside.{Bounded, bounded}
+use Rattle.mass.specs.Mass.{zero_to, reading_in_range, setting_in_range, last_product, whole_part, mass_answer}
+use Rattle.mass.specs.Outcomes.{Outcome, bad_input, too_large, fine}
+use Rattle.mass.proofs.Products.{times_bounded}
+use Rattle.mass.proofs.Inputs.{in_ppm, setting_bounded, ppm_in_percent, wet_at_most, wet_bounded}
+use Rattle.mass.proofs.Answer.{whole_mass}
 
 -- ---- refused exactly when
 module _ (scale : Float) (limit : ℕ) (reading : Reading) (s : Setting) where
   -- one of them holds, with the answer that is given
-  pub outcome : Outcome scale limit reading s (massAnswer scale limit reading s)
-  unfolding massAnswer
-  outcome = go (readingInRange reading && settingInRange s) refl (leb whole limit) refl
+  pub outcome : Outcome scale limit reading s (mass_answer scale limit reading s)
+  unfolding mass_answer
+  outcome = go (reading_in_range reading && setting_in_range s) refl (leb whole limit) refl
     where
       whole : ℕ
-      whole = wholePart (lastProduct scale reading s)
+      whole = whole_part (last_product scale reading s)
 
-      go : (t : Bool) → readingInRange reading && settingInRange s ≡ t → (l : Bool) → leb whole limit ≡ l → Outcome scale limit reading s (pick t (pick l (Mass whole) TooLarge) BadInput)
-      go false p l q = bad-input p
-      go true p false q = too-large p (leb-false whole limit q)
+      go : (t : Bool) → reading_in_range reading && setting_in_range s ≡ t → (l : Bool) → leb whole limit ≡ l → Outcome scale limit reading s (pick t (pick l (Mass whole) TooLarge) BadInput)
+      go false p l q = bad_input p
+      go true p false q = too_large p (leb-false whole limit q)
       go true p true q = fine p (leb-true whole limit q)
 
   -- and no other: each is given whenever what it says holds
-  pub only : {answer : Weighed} → Outcome scale limit reading s answer → massAnswer scale limit reading s ≡ answer
-  unfolding massAnswer
-  only (bad-input p) = rw p
-  only (too-large p l) = rw (p, lt-leb (wholePart (lastProduct scale reading s)) limit l)
-  only (fine p l) = rw (p, le-leb (wholePart (lastProduct scale reading s)) limit l)
+  pub only : {answer : Weighed} → Outcome scale limit reading s answer → mass_answer scale limit reading s ≡ answer
+  unfolding mass_answer
+  only (bad_input p) = rw p
+  only (too_large p l) = rw (p, lt-leb (whole_part (last_product scale reading s)) limit l)
+  only (fine p l) = rw (p, le-leb (whole_part (last_product scale reading s)) limit l)
 
-  pub refused-exactly : (answer : Weighed) → (massAnswer scale limit reading s ≡ answer) ↔ Outcome scale limit reading s answer
-  refused-exactly answer = (λ e. rw e at outcome, only)
+  pub refused_exactly : (answer : Weighed) → (mass_answer scale limit reading s ≡ answer) ↔ Outcome scale limit reading s answer
+  refused_exactly answer = (λ e. rw e at outcome, only)
 
 -- ---- the whole part is the floor: at most the number m * 2 ^ e = m * up e / down e, and less than 1 below it
-pub floor : (t : Bool) (m : ℕ) (e : ℤ) → (wholePart (fin t m e) * down e ≤ m * up e) × (m * up e < (wholePart (fin t m e) + 1) * down e)
-unfolding wholePart
+pub floor : (t : Bool) (m : ℕ) (e : ℤ) → (whole_part (fin t m e) * down e ≤ m * up e) × (m * up e < (whole_part (fin t m e) + 1) * down e)
+unfolding whole_part
 floor t m e =
-    let less : m * up e < m * up e / down e * down e + down e = lt-div-mul-add (down-pos e) in
-    (div-mul-le-self (m * up e) (down e), rw (add-mul (m * up e / down e) 1 (down e), one-mul (down e)) less)
+    let less : m * up e < m * up e / down e * down e + down e = lt-div-mul-add (down_pos e) in
+    (div-mul-le_self (m * up e) (down e), rw (add-mul (m * up e / down e) 1 (down e), one-mul (down e)) less)
 
 -- ---- "a negative zero reading or flow counts as zero": with a zero of either sign the mass is 0
 -- a reading of zero, of either sign
 pub data ZeroReading : Reading → Type 0 where
-  wet-ppm : (sign : Bool) → ZeroReading (WetPpm (fin sign 0 (pos 0)))
-  dry-ppm : (sign : Bool) → ZeroReading (DryPpm (fin sign 0 (pos 0)))
-  wet-percent : (sign : Bool) → ZeroReading (WetPercent (fin sign 0 (pos 0)))
-  dry-percent : (sign : Bool) → ZeroReading (DryPercent (fin sign 0 (pos 0)))
+  wet_ppm_lem : (sign : Bool) → ZeroReading (WetPpm (fin sign 0 (pos 0)))
+  dry_ppm : (sign : Bool) → ZeroReading (DryPpm (fin sign 0 (pos 0)))
+  wet_percent : (sign : Bool) → ZeroReading (WetPercent (fin sign 0 (pos 0)))
+  dry_percent : (sign : Bool) → ZeroReading (DryPercent (fin sign 0 (pos 0)))
 
-no-whole : {x : Float} → Bounded x 0 → wholePart x ≡ 0
-unfolding wholePart
-no-whole (bounded {m = m} {e = e} p small) =
+no_whole : {x : Float} → Bounded x 0 → whole_part x ≡ 0
+unfolding whole_part
+no_whole (bounded {m = m} {e = e} p small) =
     let none : m * up e ≡ 0 = omega (arith, zero-mul (down e)) in
     rw none (zero-div (down e))
 
-zero-bounded : (sign : Bool) → Bounded (fin sign 0 (pos 0)) 0
-zero-bounded sign = bounded (λ h. refl) (lit≤ tt)
+zero_bounded : (sign : Bool) → Bounded (fin sign 0 (pos 0)) 0
+zero_bounded sign = bounded (λ h. refl) (lit≤ tt)
 
-zero-in-range : {reading : Reading} → ZeroReading reading → readingInRange reading ≡ true
-unfolding readingInRange zeroTo le lt eq ofInt
-zero-in-range (wet-ppm true) = refl
-zero-in-range (wet-ppm false) = refl
-zero-in-range (dry-ppm true) = refl
-zero-in-range (dry-ppm false) = refl
-zero-in-range (wet-percent true) = refl
-zero-in-range (wet-percent false) = refl
-zero-in-range (dry-percent true) = refl
-zero-in-range (dry-percent false) = refl
+zero_in_range : {reading : Reading} → ZeroReading reading → reading_in_range reading ≡ true
+unfolding reading_in_range zero_to le lt eq of_int
+zero_in_range (wet_ppm_lem true) = refl
+zero_in_range (wet_ppm_lem false) = refl
+zero_in_range (dry_ppm true) = refl
+zero_in_range (dry_ppm false) = refl
+zero_in_range (wet_percent true) = refl
+zero_in_range (wet_percent false) = refl
+zero_in_range (dry_percent true) = refl
+zero_in_range (dry_percent false) = refl
 
-zero-ppm : {reading : Reading} → ZeroReading reading → Bounded (inPpm reading) 0
-zero-ppm (wet-ppm sign) = zero-bounded sign
-zero-ppm (dry-ppm sign) = zero-bounded sign
-zero-ppm (wet-percent sign) = times-bounded (zero-bounded sign) ppm-in-percent (lit≤ tt)
-zero-ppm (dry-percent sign) = times-bounded (zero-bounded sign) ppm-in-percent (lit≤ tt)
+zero_ppm : {reading : Reading} → ZeroReading reading → Bounded (in_ppm reading) 0
+zero_ppm (wet_ppm_lem sign) = zero_bounded sign
+zero_ppm (dry_ppm sign) = zero_bounded sign
+zero_ppm (wet_percent sign) = times_bounded (zero_bounded sign) ppm_in_percent (lit≤ tt)
+zero_ppm (dry_percent sign) = times_bounded (zero_bounded sign) ppm_in_percent (lit≤ tt)
 
-pub zero-reading : {scale : Float} (limit : ℕ) {reading : Reading} (s : Setting) → Bounded scale 1_000_000 → ZeroReading reading → settingInRange s ≡ true → massAnswer scale limit reading s ≡ Mass 0
-unfolding lastProduct
-zero-reading {scale} limit {reading} s b zero h =
-    let in-range = setting-bounded s h in
-    let none = times-bounded (times-bounded (times-bounded (in-range .u) (wet-at-most reading (s .factor) 0 (lit≤ tt) (zero-ppm zero) (in-range .factor)) (lit≤ tt)) (in-range .flow) (lit≤ tt)) b (lit≤ tt) in
-    whole-mass scale limit reading s (zero-in-range zero) h (sym (no-whole none)) (omega arith)
+pub zero_reading : {scale : Float} (limit : ℕ) {reading : Reading} (s : Setting) → Bounded scale 1_000_000 → ZeroReading reading → setting_in_range s ≡ true → mass_answer scale limit reading s ≡ Mass 0
+unfolding last_product
+zero_reading {scale} limit {reading} s b zero h =
+    let in_range = setting_bounded s h in
+    let none = times_bounded (times_bounded (times_bounded in_range.u (wet_at_most reading s.factor 0 (lit≤ tt) (zero_ppm zero) in_range.factor) (lit≤ tt)) in_range.flow (lit≤ tt)) b (lit≤ tt) in
+    whole_mass scale limit reading s (zero_in_range zero) h (sym (no_whole none)) (omega arith)
 
-pub zero-flow : {scale : Float} (limit : ℕ) (reading : Reading) (s : Setting) → Bounded scale 1_000_000 → (sign : Bool) → s .flow ≡ fin sign 0 (pos 0) → readingInRange reading ≡ true → settingInRange s ≡ true → massAnswer scale limit reading s ≡ Mass 0
-unfolding lastProduct
-zero-flow {scale} limit reading s b sign zero r h =
-    let in-range = setting-bounded s h in
-    let flow : Bounded (s .flow) 0 = rw zero (zero-bounded sign) in
-    let wet = times-bounded (in-range .u) (wet-bounded reading (s .factor) r (in-range .factor)) (lit≤ tt) in
-    let none = times-bounded (times-bounded wet flow (lit≤ tt)) b (lit≤ tt) in
-    whole-mass scale limit reading s r h (sym (no-whole none)) (omega arith)
+pub zero_flow : {scale : Float} (limit : ℕ) (reading : Reading) (s : Setting) → Bounded scale 1_000_000 → (sign : Bool) → s.flow ≡ fin sign 0 (pos 0) → reading_in_range reading ≡ true → setting_in_range s ≡ true → mass_answer scale limit reading s ≡ Mass 0
+unfolding last_product
+zero_flow {scale} limit reading s b sign zero r h =
+    let in_range = setting_bounded s h in
+    let flow : Bounded s.flow 0 = rw zero (zero_bounded sign) in
+    let wet = times_bounded in_range.u (wet_bounded reading s.factor r in_range.factor) (lit≤ tt) in
+    let none = times_bounded (times_bounded wet flow (lit≤ tt)) b (lit≤ tt) in
+    whole_mass scale limit reading s r h (sym (no_whole none)) (omega arith)

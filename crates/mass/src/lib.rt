@@ -2,11 +2,12 @@
 // gives the whole mass of the second, CO2 in mg or NOx in µg, or a refusal.
 // specs/Mass.antt says what is right, in the paper's words.
 
-ghost use mathlib.Core.Path.{_≡_};
-ghost use Rattle·mass·specs.specs.Mass.{zeroTo, aboveZeroTo, readingInRange, settingInRange, wetPpm, lastProduct, wholePart, massAnswer, co2Mass, noxMass};
-ghost use Rattle·mass·specs.specs.Inside.{Bounded};
+ghost use Rattle.std.specs.Prelude.{◌≡◌};
+ghost use Rattle.mass.specs.Mass.{zero_to, above_zero_to, reading_in_range, setting_in_range, wet_ppm, last_product, whole_part, mass_answer, co2_mass, nox_mass};
+ghost use Rattle.mass.specs.Inside.{Bounded};
 
 // What the gas bench read. Ppm runs 0 to 200,000, percent 0 to 20.
+#[derive(Drop)]
 pub enum Reading {
     WetPpm(f64),
     DryPpm(f64),
@@ -16,6 +17,7 @@ pub enum Reading {
 
 // What the reading was taken at.
 #[repr(C)]
+#[derive(Drop)]
 pub struct Setting {
     pub u: f64, // above 0, at most 0.01
     pub factor: f64, // the dry-wet factor: above 0, at most 1
@@ -23,6 +25,7 @@ pub struct Setting {
 }
 
 // The answer of the mass step.
+#[derive(Drop)]
 pub enum Weighed {
     Mass(u32), // accepted: the whole mass
     BadInput, // refusal 9: a mass input not finite or out of range
@@ -31,14 +34,14 @@ pub enum Weighed {
 
 // The CO2 mass of the second, in mg.
 pub fn co2_mass(reading: Reading, setting: Setting) -> Weighed
-    ensures { λ r. ⌜ r ≡ co2Mass reading setting ⌝ }
+    ensures { result ≡ co2_mass reading setting }
 {
     mass_of(reading, setting, MG_IN_A_GRAM, base::limits::CO2)
 }
 
 // The NOx mass of the second, in µg.
 pub fn nox_mass(reading: Reading, setting: Setting) -> Weighed
-    ensures { λ r. ⌜ r ≡ noxMass reading setting ⌝ }
+    ensures { result ≡ nox_mass reading setting }
 {
     mass_of(reading, setting, UG_IN_A_GRAM, base::limits::NOX)
 }
@@ -62,8 +65,8 @@ const PPM_IN_A_PERCENT: f64 = 10_000.0;
 
 // The mass at a scale, refused where it is above limit.
 fn mass_of(reading: Reading, setting: Setting, scale: f64, limit: u32) -> Weighed
-    requires { ⌜ Bounded scale 1_000_000 ⌝ }
-    ensures { λ r. ⌜ r ≡ massAnswer scale limit reading setting ⌝ }
+    requires { Bounded scale 1_000_000 }
+    ensures { result ≡ mass_answer scale limit reading setting }
 {
     if !reading_in_range(reading) {
         return Weighed::BadInput;
@@ -81,7 +84,7 @@ fn mass_of(reading: Reading, setting: Setting, scale: f64, limit: u32) -> Weighe
 
 // Whether the reading is in the range of its unit.
 fn reading_in_range(reading: Reading) -> bool
-    ensures { λ r. ⌜ r ≡ readingInRange reading ⌝ }
+    ensures { result ≡ reading_in_range reading }
 {
     match reading {
         Reading::WetPpm(x) => zero_to(x, PPM_MAX),
@@ -93,7 +96,7 @@ fn reading_in_range(reading: Reading) -> bool
 
 // Whether each of the three settings is in its range.
 fn setting_in_range(setting: Setting) -> bool
-    ensures { λ r. ⌜ r ≡ settingInRange setting ⌝ }
+    ensures { result ≡ setting_in_range setting }
 {
     above_zero_to(setting.u, U_MAX)
         & above_zero_to(setting.factor, FACTOR_MAX)
@@ -102,21 +105,21 @@ fn setting_in_range(setting: Setting) -> bool
 
 // Whether x is from 0 to top. A NaN is not.
 fn zero_to(x: f64, top: f64) -> bool
-    ensures { λ r. ⌜ r ≡ zeroTo x top ⌝ }
+    ensures { result ≡ zero_to x top }
 {
     (0.0 <= x) & (x <= top)
 }
 
 // Whether x is above 0 and at most top. A NaN is not.
 fn above_zero_to(x: f64, top: f64) -> bool
-    ensures { λ r. ⌜ r ≡ aboveZeroTo x top ⌝ }
+    ensures { result ≡ above_zero_to x top }
 {
     (0.0 < x) & (x <= top)
 }
 
 // The wet concentration in ppm: percent times 10,000, then dry times the factor.
 fn wet_ppm(reading: Reading, factor: f64) -> f64
-    ensures { λ r. ⌜ r ≡ wetPpm reading factor ⌝ }
+    ensures { result ≡ wet_ppm reading factor }
 {
     match reading {
         Reading::WetPpm(x) => x,
@@ -129,7 +132,7 @@ fn wet_ppm(reading: Reading, factor: f64) -> f64
 // The products in the paper's order, one rounding each: u times the wet concentration, times flow,
 // times the scale.
 fn last_product(reading: Reading, setting: Setting, scale: f64) -> f64
-    ensures { λ r. ⌜ r ≡ lastProduct scale reading setting ⌝ }
+    ensures { result ≡ last_product scale reading setting }
 {
     let ppm = wet_ppm(reading, setting.factor);
     setting.u * ppm * setting.flow * scale
@@ -143,8 +146,8 @@ const EXPONENT_OF_WHOLE: u64 = 1_075;
 
 // The whole part of x, from its bits.
 fn whole_part(x: f64) -> u64
-    requires { ⌜ Bounded x 200_000_000_000 ⌝ }
-    ensures { λ r. ⌜ r ≡ wholePart x ⌝ }
+    requires { Bounded x 200_000_000_000 }
+    ensures { result ≡ whole_part x }
 {
     if x < 1.0 {
         return 0;

@@ -1,5 +1,5 @@
 -- The release of the meaning: the entry of docs/VALID.md by which this build answers.
-use Prim.Native.Nat.{ℕ}
+use Rattle.std.specs.Prelude.{ℕ}
 
-abbrev pub releaseOfMeaning : ℕ
-releaseOfMeaning = 3
+abbrev pub release_of_meaning : ℕ
+release_of_meaning = 3

@@ -1,18 +1,17 @@
 // The 95th percentile of products (Appendix 7a): Q of a ranked slice, and the call that ranks
 // products in any order into a lent lane first.
 
-ghost use mathlib.Core.Path.{_≡_};
-ghost use mathlib.Core.List.{_++_};
-ghost use Prim.Native.Nat.{_≤_};
-ghost use lib.ListN.{length, take, drop};
-ghost use Rattle·base.specs.Limits.{tripLimit};
-ghost use Rattle·base.specs.Words.{withFront};
-ghost use Rattle·order.specs.Sort.{sort};
-ghost use Rattle·percentile·specs.specs.Inside.{Ranked};
-ghost use Rattle·percentile·specs.specs.Percentile.{qOf, qOrZero, firstBadProduct, faultOf, answerOf, laneOf};
+ghost use Rattle.std.specs.Prelude.{◌≡◌, ◌++◌, ◌≤◌, length, take, drop};
+ghost use Rattle.base.specs.Limits.{trip_limit};
+ghost use Rattle.base.specs.Words.{with_front};
+ghost use Rattle.order.specs.Sort.{sort};
+ghost use Rattle.percentile.specs.Inside.{Ranked};
+ghost use Rattle.percentile.specs.Percentile.{q_of, q_or_zero, first_bad_product, fault_of, answer_of, lane_of};
+
 use base::Fault;
 
 // The answer of the percentile call.
+#[derive(Drop)]
 pub enum Answer {
     Q(u64),
     Refused(Fault), // 2, 12, 6 or 3
@@ -26,8 +25,8 @@ const PRODUCT: u32 = 625_000_000;
 
 // Q of products in any order, which are ranked into the lane, one place for each.
 pub fn percentile(values: &[u32], ranks: &mut [u32]) -> Answer
-    ensures { λ r. ⌜ r ≡ answerOf (now (values .entry)) (length (now (ranks .entry))) ⌝ }
-    ensures { λ r. ⌜ now (ranks .exit) ≡ laneOf (now (values .entry)) (now (ranks .entry)) ⌝ }
+    ensures value { result ≡ answer_of values.now (length ranks.old) }
+    ensures ranks_after { ranks.new ≡ lane_of values.now ranks.old }
 {
     let fault = fault_of(values, ranks.len());
     let number = fault.number;
@@ -40,9 +39,9 @@ pub fn percentile(values: &[u32], ranks: &mut [u32]) -> Answer
 
 // Ranks the first m products of a lane, and gives their Q, zero where they are fewer than 100.
 pub fn rank_first(lane: &mut [u32], m: usize) -> u64
-    requires { ⌜ (m ≤ length (now lane)) × (m ≤ tripLimit) ⌝ }
-    ensures { λ r. ⌜ r ≡ qOrZero (take m (now (lane .entry))) ⌝ }
-    ensures { λ r. ⌜ now (lane .exit) ≡ sort (take m (now (lane .entry))) ++ drop m (now (lane .entry)) ⌝ }
+    requires { (m ≤ length lane.old) × (m ≤ trip_limit) }
+    ensures value { result ≡ q_or_zero (take m lane.old) }
+    ensures lane_after { lane.new ≡ sort (take m lane.old) ++ drop m lane.old }
 {
     rank::rank(&mut lane[..m]);
     if m < FEWEST {
@@ -53,7 +52,7 @@ pub fn rank_first(lane: &mut [u32], m: usize) -> u64
 
 // What is refused of values and a lane with so many places: 2, 12, 6, then 3.
 fn fault_of(values: &[u32], places: usize) -> Fault
-    ensures { λ r. ⌜ r ≡ faultOf (now (values .entry)) places ⌝ }
+    ensures { result ≡ fault_of values.now places }
 {
     let n = values.len();
     if base::too_many(n) {
@@ -74,7 +73,7 @@ fn fault_of(values: &[u32], places: usize) -> Fault
 
 // The index of the first value out of range, and the number of values where there is none.
 fn first_bad(values: &[u32]) -> usize
-    ensures { λ r. ⌜ r ≡ firstBadProduct (now (values .entry)) ⌝ }
+    ensures { result ≡ first_bad_product values.now }
 {
     let mut i = 0;
     while i < values.len() {
@@ -88,8 +87,8 @@ fn first_bad(values: &[u32]) -> usize
 
 // Copies the values to the front of the lane.
 fn copy(values: &[u32], lane: &mut [u32])
-    requires { ⌜ length (now values) ≤ length (now lane) ⌝ }
-    ensures { λ r. ⌜ now (lane .exit) ≡ withFront (now (values .entry)) (now (lane .entry)) ⌝ }
+    requires { length values.now ≤ length lane.old }
+    ensures { lane.new ≡ with_front values.now lane.old }
 {
     let mut i = 0;
     while i < values.len() {
@@ -100,8 +99,8 @@ fn copy(values: &[u32], lane: &mut [u32])
 
 // Q of ranked products: j and r are the quotient and remainder of 95 M by 100.
 fn q_of(ranked: &[u32]) -> u64
-    requires { ⌜ Ranked (now ranked) ⌝ }
-    ensures { λ r. ⌜ r ≡ qOf (now (ranked .entry)) ⌝ }
+    requires { Ranked ranked.now }
+    ensures { result ≡ q_of ranked.now }
 {
     let m = ranked.len();
     let part = 95 * m;

@@ -8,82 +8,49 @@
 pub use meaning::RELEASE;
 
 // The plan of a trip, and a refusal's number and place.
-pub use base::Fault;
-pub use base::Plan;
+pub use base::{Fault, Plan};
 
 // From concentration to mass: the CO2 of a second in mg, the NOx in µg.
-pub use mass::Reading;
-pub use mass::Setting;
-pub use mass::Weighed;
-pub use mass::co2_mass;
-pub use mass::nox_mass;
+pub use mass::{Reading, Setting, Weighed, co2_mass, nox_mass};
 
 // One item from the front of some bytes.
-pub use item::Front;
-pub use item::Item;
-pub use item::read_item;
+pub use item::{Front, Item, read_item};
 pub use second::Row;
 
 // A whole stream, read into seven lent lanes.
-pub use stream::ReadAnswer;
-pub use stream::read_stream;
+pub use stream::{ReadAnswer, read_stream};
 
 // The stream of a plan and seven lanes, written into a lent buffer.
-pub use writer::WriteAnswer;
-pub use writer::write_stream;
+pub use writer::{WriteAnswer, write_stream};
 
 // A stream that arrives in blocks, cut anywhere: a reader is fed block by block and asked at the end.
 pub use blocks::feed;
-pub use reader::Fed;
-pub use reader::Reader;
-pub use reader::end;
-pub use reader::start;
+pub use reader::{Fed, Reader, end, start};
 
 // The sweep over the kept seconds, cut by a budget of moves and taken up again.
-pub use sweep::SweepState;
-pub use sweep::Swept;
-pub use sweep::sweep;
+pub use sweep::{SweepState, Swept, sweep};
 
 // D of one second of a trip.
-pub use acceleration::Acceleration;
-pub use acceleration::d_of_second;
+pub use acceleration::{Acceleration, d_of_second};
 
 // Q, the percentile of products in any order, ranked into a lent lane.
-pub use percentile::Answer;
-pub use percentile::percentile;
+pub use percentile::{Answer, percentile};
 
 // The whole trip: kept seconds, windows, bins, climb, and the verdict.
 pub use bins::Bin;
 pub use tally::Tally;
-pub use trip::Evaluated;
-pub use trip::evaluate;
+pub use trip::{Evaluated, evaluate};
 pub use windows::ClassCount;
 
 // The reasons of a verdict: a mask for each, and whether a verdict has one.
-pub use verdict::DULL_BIN;
-pub use verdict::ENDS_APART;
-pub use verdict::FEW_FAST_SECONDS;
-pub use verdict::FEW_PRODUCTS;
-pub use verdict::LIVELY_BIN;
-pub use verdict::MISSING_SECONDS;
-pub use verdict::NO_WINDOWS;
-pub use verdict::OUTSIDE_BAND;
-pub use verdict::SHARE_OF_DISTANCE;
-pub use verdict::SHORT_PART;
-pub use verdict::SLOW_SECONDS;
-pub use verdict::TOO_FAST;
-pub use verdict::TOO_HIGH;
-pub use verdict::TOO_MUCH_CLIMB;
-pub use verdict::TRIP_LENGTH;
-pub use verdict::URBAN_MEAN;
-pub use verdict::has_reason;
+pub use verdict::{
+    DULL_BIN, ENDS_APART, FEW_FAST_SECONDS, FEW_PRODUCTS, LIVELY_BIN, MISSING_SECONDS, NO_WINDOWS,
+    OUTSIDE_BAND, SHARE_OF_DISTANCE, SHORT_PART, SLOW_SECONDS, TOO_FAST, TOO_HIGH, TOO_MUCH_CLIMB,
+    TRIP_LENGTH, URBAN_MEAN, has_reason,
+};
 
 // The printed lines, written into a lent buffer.
-pub use report::ClassLine;
-pub use report::Judged;
-pub use report::LONGEST_TEXT;
-pub use report::report;
-pub use report::report_refusal;
+pub use report::{ClassLine, Judged, LONGEST_TEXT, report, report_refusal};
 
 // What is printed for a stream that was read into lanes.
 pub use printed::write_text;

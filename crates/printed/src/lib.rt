@@ -1,21 +1,18 @@
 // What is printed for a trip stream that was read into lanes: the stream's refusal, or else the
 // trip's, or the six lines. specs/Printed.antt says what is right, in the paper's words.
 
-use base::Plan;
-use base::refusal;
-use report::ClassLine;
-use report::Judged;
+ghost use Rattle.std.specs.Prelude.{◌≡◌, ◌≤◌, length};
+ghost use Rattle.second.specs.Lanes.{lanes_of};
+ghost use Rattle.report.specs.Lines.{length_written, buffer_written, longest_text};
+ghost use Rattle.trip.specs.Trip.{answer_of};
+ghost use Rattle.trip.specs.Lent.{lent_of, rooms_in, lent_left};
+ghost use Rattle.printed.specs.Printed.{first_seconds, class_line_of, lines_of, trip_text, printed_text, lent_after};
+
+use base::{Plan, refusal};
+use report::{ClassLine, Judged};
 use stream::ReadAnswer;
 use trip::Evaluated;
 use windows::ClassCount;
-ghost use mathlib.Core.Path.{_≡_};
-ghost use Prim.Native.Nat.{_≤_};
-ghost use lib.ListN.{length};
-ghost use Rattle·second.specs.Lanes.{lanesOf};
-ghost use Rattle·report.specs.Lines.{lengthWritten, bufferWritten, longestText};
-ghost use Rattle·trip.specs.Trip.{answerOf};
-ghost use Rattle·trip.specs.Lent.{lentOf, roomsIn, lentLeft};
-ghost use Rattle·printed·specs.specs.Printed.{firstSeconds, classLineOf, linesOf, tripText, printedText, lentAfter};
 
 // Judges the seconds that were read, which stand at the front of the seven lanes, writes what is
 // printed to the front of a buffer, and answers how many bytes it takes; a buffer of
@@ -36,15 +33,14 @@ pub fn write_text(
     ranks: &mut [u32],
     buffer: &mut [u8],
 ) -> usize
-    ensures { λ r.
-        let lanes = lanesOf (now (states .entry)) (now (speeds .entry)) (now (altitudes .entry)) (now (co2 .entry)) (now (nox .entry)) (now (counts .entry)) (now (marks .entry)) in
-        let lent = lentOf (now («kept_speeds» .entry)) (now («kept_co2» .entry)) (now (ends .entry)) (now (ranks .entry)) in
-        let text = printedText read lanes (roomsIn lent) in
-        let left = lentOf (now («kept_speeds» .exit)) (now («kept_co2» .exit)) (now (ends .exit)) (now (ranks .exit)) in
-        ⌜ (r ≡ lengthWritten text (now (buffer .entry)))
-        × (now (buffer .exit) ≡ bufferWritten text (now (buffer .entry)))
-        × (length text ≤ longestText)
-        × (left ≡ lentAfter read lanes lent) ⌝ }
+    ensures { let lanes = lanes_of states.now speeds.now altitudes.now co2.now nox.now counts.now marks.now in
+        let lent = lent_of kept_speeds.old kept_co2.old ends.old ranks.old in
+        let text = printed_text read lanes (rooms_in lent) in
+        let left = lent_of kept_speeds.new kept_co2.new ends.new ranks.new in
+        (result ≡ length_written text buffer.old)
+        × (buffer.new ≡ buffer_written text buffer.old)
+        × (length text ≤ longest_text)
+        × (left ≡ lent_after read lanes lent) }
 {
     let stream_refusal = read.refusal;
     let stream_place = read.place;
@@ -87,12 +83,11 @@ fn judge_first(
     ends: &mut [u16],
     ranks: &mut [u32],
 ) -> Evaluated
-    ensures { λ r.
-        let trip = firstSeconds seconds (lanesOf (now (states .entry)) (now (speeds .entry)) (now (altitudes .entry)) (now (co2 .entry)) (now (nox .entry)) (now (counts .entry)) (now (marks .entry))) in
-        let lent = lentOf (now («kept_speeds» .entry)) (now («kept_co2» .entry)) (now (ends .entry)) (now (ranks .entry)) in
-        let left = lentOf (now («kept_speeds» .exit)) (now («kept_co2» .exit)) (now (ends .exit)) (now (ranks .exit)) in
-        ⌜ (r ≡ answerOf plan trip (roomsIn lent))
-        × (left ≡ lentLeft plan trip lent) ⌝ }
+    ensures { let trip = first_seconds seconds (lanes_of states.now speeds.now altitudes.now co2.now nox.now counts.now marks.now) in
+        let lent = lent_of kept_speeds.old kept_co2.old ends.old ranks.old in
+        let left = lent_of kept_speeds.new kept_co2.new ends.new ranks.new in
+        (result ≡ answer_of plan trip (rooms_in lent))
+        × (left ≡ lent_left plan trip lent) }
 {
     let in_states = base::least(seconds, states.len());
     let in_speeds = base::least(seconds, speeds.len());
@@ -119,7 +114,7 @@ fn judge_first(
 
 // Writes what is printed of a trip's answer.
 fn write_trip(trip: Evaluated, buffer: &mut [u8]) -> usize
-    ensures { λ r. ⌜ (r ≡ lengthWritten (tripText trip) (now (buffer .entry))) × (now (buffer .exit) ≡ bufferWritten (tripText trip) (now (buffer .entry))) × (length (tripText trip) ≤ longestText) ⌝ }
+    ensures { (result ≡ length_written (trip_text trip) buffer.old) × (buffer.new ≡ buffer_written (trip_text trip) buffer.old) × (length (trip_text trip) ≤ longest_text) }
 {
     let trip_refusal = trip.refusal;
     let trip_place = trip.place;
@@ -131,7 +126,7 @@ fn write_trip(trip: Evaluated, buffer: &mut [u8]) -> usize
 
 // The numbers of the six lines.
 fn lines_of(trip: Evaluated) -> Judged
-    ensures { λ r. ⌜ r ≡ linesOf trip ⌝ }
+    ensures { result ≡ lines_of trip }
 {
     let classes = trip.classes;
     let urban = classes[base::road::URBAN];
@@ -152,7 +147,7 @@ fn lines_of(trip: Evaluated) -> Judged
 
 // A class line's numbers.
 fn class_line(class: ClassCount) -> ClassLine
-    ensures { λ r. ⌜ r ≡ classLineOf class ⌝ }
+    ensures { result ≡ class_line_of class }
 {
     ClassLine {
         windows: class.windows as u64,

@@ -1,29 +1,31 @@
 // Leaves that the product calls only with figures of a trip, opened to the tests with figures of any
 // size. It is no part of the library that is handed out.
 
+ghost use Rattle.std.specs.Prelude.{◌≡◌};
+ghost use Rattle.lively.specs.Lively.{too_lively, too_dull};
+ghost use Rattle.probe.specs.Window.{window_in_range, window_probe};
+
 use base::Plan;
-ghost use mathlib.Core.Path.{_≡_};
-ghost use Rattle·lively.specs.Lively.{tooLively, tooDull};
-ghost use Rattle·probe·specs.specs.Window.{windowInRange, windowProbe};
 
 // Whether a bin is too lively: S, N and Q of any size.
-#[no_mangle]
+#[unsafe(no_mangle)]
 pub extern "C" fn probe_too_lively(s: u32, n: u32, q: u64) -> bool
-    ensures { λ r. ⌜ r ≡ tooLively s n q ⌝ }
+    ensures { result ≡ too_lively s n q }
 {
     lively::too_lively(s, n, q)
 }
 
 // Whether a bin is too dull: S, N and T of any size.
-#[no_mangle]
+#[unsafe(no_mangle)]
 pub extern "C" fn probe_too_dull(s: u32, n: u32, t: u64) -> bool
-    ensures { λ r. ⌜ r ≡ tooDull s n t ⌝ }
+    ensures { result ≡ too_dull s n t }
 {
     lively::too_dull(s, n, t)
 }
 
 // A window judged.
 #[repr(C)]
+#[derive(Drop)]
 pub struct WindowProbe {
     pub judged: bool, // whether the plan is in range and there can be such a window
     pub inside: bool,
@@ -31,9 +33,9 @@ pub struct WindowProbe {
 }
 
 // A window of any sum of speeds and mass above 0, and of any length that the comparisons have room for.
-#[no_mangle]
+#[unsafe(no_mangle)]
 pub extern "C" fn probe_window(plan: Plan, s: u32, m: u32, n: usize) -> WindowProbe
-    ensures { λ r. ⌜ r ≡ windowProbe plan s m n ⌝ }
+    ensures { result ≡ window_probe plan s m n }
 {
     if !base::plan_in_range(plan) {
         return NOT_JUDGED;
@@ -51,7 +53,7 @@ pub extern "C" fn probe_window(plan: Plan, s: u32, m: u32, n: usize) -> WindowPr
 
 // Whether there can be a window of this sum of speeds, mass and length.
 fn window_in_range(s: u32, m: u32, n: usize) -> bool
-    ensures { λ r. ⌜ r ≡ windowInRange s m n ⌝ }
+    ensures { result ≡ window_in_range s m n }
 {
     (1 <= n) & (n <= windows::WINDOW_MOST) & (1 <= s) & (1 <= m)
 }

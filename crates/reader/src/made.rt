@@ -1,23 +1,20 @@
 // Which readers the calls make: specs/Inside.antt says it, test by test, and
 // specs/Reached.antt what it comes to.
 
+ghost use Rattle.std.specs.Prelude.{◌≡◌, ℕ, ◌+◌, ◌*◌, ◌≤◌, drop};
+ghost use Rattle.base.specs.Limits.{trip_limit};
+ghost use Rattle.base.specs.Words.{pick};
+ghost use Rattle.item.specs.Format.{plan_kind, second_kinds, item_length, longest};
+ghost use Rattle.reader.specs.Reader.{plan_before};
+ghost use Rattle.reader.specs.Inside.{is_no_plan, made_before, can_end, made_after, standing_made, all_zero, carry_made, number_before, number_after, settled_made, was_made};
+
 use crate::Reader;
-use base::Plan;
-use base::limits;
-use base::refusal;
+use base::{Plan, limits, refusal};
 use item::kind;
-ghost use mathlib.Core.Path.{_≡_};
-ghost use Prim.Native.Nat.{ℕ, _+_, _*_, _≤_};
-ghost use lib.ListN.{drop};
-ghost use Rattle·base.specs.Limits.{tripLimit};
-ghost use Rattle·base.specs.Words.{pick};
-ghost use Rattle·item.specs.Format.{planKind, secondKinds, itemLength, longest};
-ghost use Rattle·reader·specs.specs.Reader.{planBefore};
-ghost use Rattle·reader·specs.specs.Inside.{isNoPlan, madeBefore, canEnd, madeAfter, standingMade, allZero, carryMade, numberBefore, numberAfter, settledMade, wasMade};
 
 // Whether the calls make a reader.
 pub fn was_made(reader: Reader) -> bool
-    ensures { λ r. ⌜ r ≡ wasMade reader ⌝ }
+    ensures { result ≡ was_made reader }
 {
     if !standing_made(reader) {
         return false;
@@ -30,7 +27,7 @@ pub fn was_made(reader: Reader) -> bool
 
 // Whether what it has read is right in itself.
 fn standing_made(reader: Reader) -> bool
-    ensures { λ r. ⌜ r ≡ standingMade reader ⌝ }
+    ensures { result ≡ standing_made reader }
 {
     let at = reader.at;
     if crate::plan_before(at) {
@@ -41,7 +38,7 @@ fn standing_made(reader: Reader) -> bool
 
 // Whether nothing was read before the plan.
 fn made_before(reader: Reader) -> bool
-    ensures { λ r. ⌜ r ≡ madeBefore reader ⌝ }
+    ensures { result ≡ made_before reader }
 {
     let plan = reader.plan;
     let seconds = reader.seconds;
@@ -50,7 +47,7 @@ fn made_before(reader: Reader) -> bool
 
 // Whether a plan is all zero.
 fn is_no_plan(plan: Plan) -> bool
-    ensures { λ r. ⌜ r ≡ isNoPlan plan ⌝ }
+    ensures { result ≡ is_no_plan plan }
 {
     (plan.reference == 0)
         & (plan.e1 == 0)
@@ -64,7 +61,7 @@ fn is_no_plan(plan: Plan) -> bool
 
 // Whether the plan, the seconds and the offset go together.
 fn made_after(reader: Reader) -> bool
-    ensures { λ r. ⌜ r ≡ madeAfter reader ⌝ }
+    ensures { result ≡ made_after reader }
 {
     let plan = reader.plan;
     let seconds = reader.seconds;
@@ -77,8 +74,8 @@ fn made_after(reader: Reader) -> bool
 
 // Whether a plan and so many seconds can end at `at`.
 fn offset_made(seconds: usize, at: usize) -> bool
-    requires { ⌜ seconds ≤ tripLimit ⌝ }
-    ensures { λ r. ⌜ r ≡ canEnd seconds (itemLength planKind) at ⌝ }
+    requires { seconds ≤ trip_limit }
+    ensures { result ≡ can_end seconds (item_length plan_kind) at }
 {
     let least = kind::PLAN_SIZE + kind::MISSING_SIZE * seconds;
     if at < least {
@@ -94,8 +91,8 @@ fn offset_made(seconds: usize, at: usize) -> bool
 // with values and 11 for one with its count too. As many as can be have a count, for then they are the
 // fewest: all elevens that fit, less the few (`back`, below 7) without which sevens are left.
 fn bodies_made(seconds: usize, bytes: usize) -> bool
-    requires { ⌜ bytes ≤ tripLimit * longest secondKinds ⌝ }
-    ensures { λ r. ⌜ ((from : ℕ) → r ≡ canEnd seconds from (from + seconds + bytes)) ⌝ }
+    requires { bytes ≤ trip_limit * longest second_kinds }
+    ensures { (from : ℕ) → result ≡ can_end seconds from (from + seconds + bytes) }
 {
     let pairs = bytes / PAIR;
     let most = pairs / COUNTED_PAIRS;
@@ -123,7 +120,7 @@ const TURN: usize = 5;
 
 // Whether it holds nothing, or the front of an item of a known kind.
 fn carry_made(reader: Reader) -> bool
-    ensures { λ r. ⌜ r ≡ carryMade reader ⌝ }
+    ensures { result ≡ carry_made reader }
 {
     let count = reader.count;
     let held = reader.held;
@@ -132,7 +129,7 @@ fn carry_made(reader: Reader) -> bool
 
 // Whether all bytes from a place on are zero.
 fn all_zero(bytes: &[u8], from: usize) -> bool
-    ensures { λ r. ⌜ r ≡ allZero (drop from (now (bytes .entry))) ⌝ }
+    ensures { result ≡ all_zero (drop from bytes.now) }
 {
     let mut i = from;
     while i < bytes.len() {
@@ -146,7 +143,7 @@ fn all_zero(bytes: &[u8], from: usize) -> bool
 
 // Whether it holds nothing, and an item can have the number that settled it.
 fn settled_made(reader: Reader) -> bool
-    ensures { λ r. ⌜ r ≡ settledMade reader ⌝ }
+    ensures { result ≡ settled_made reader }
 {
     let count = reader.count;
     let held = reader.held;
@@ -155,7 +152,7 @@ fn settled_made(reader: Reader) -> bool
 
 // Whether an item can have this number where the reader stands.
 fn number_made(reader: Reader) -> bool
-    ensures { λ r. ⌜ r ≡ pick (planBefore (reader .at)) (numberAfter (reader .refusal) (reader .seconds)) (numberBefore (reader .refusal)) ⌝ }
+    ensures { result ≡ pick (plan_before reader.at) (number_after reader.refusal reader.seconds) (number_before reader.refusal) }
 {
     let number = reader.refusal;
     let seconds = reader.seconds;
@@ -168,7 +165,7 @@ fn number_made(reader: Reader) -> bool
 
 // Whether an item can have this number before the plan was read.
 fn number_before(number: u8) -> bool
-    ensures { λ r. ⌜ r ≡ numberBefore number ⌝ }
+    ensures { result ≡ number_before number }
 {
     (number == refusal::UNKNOWN_KIND)
         | (number == refusal::PLAN_MISPLACED)
@@ -177,7 +174,7 @@ fn number_before(number: u8) -> bool
 
 // Whether an item can have this number after the plan and some seconds.
 fn number_after(number: u8, seconds: usize) -> bool
-    ensures { λ r. ⌜ r ≡ numberAfter number seconds ⌝ }
+    ensures { result ≡ number_after number seconds }
 {
     (number == refusal::UNKNOWN_KIND)
         | (number == refusal::PLAN_MISPLACED)

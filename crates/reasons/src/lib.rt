@@ -4,18 +4,18 @@
 
 mod numbers;
 
+ghost use Rattle.std.specs.Prelude.{◌≡◌, ◌≤◌, ltb};
+ghost use Rattle.climb.specs.Inside.{climb_most};
+ghost use Rattle.reasons.specs.Numbers.{distance_least, other_share_least, other_share_most};
+ghost use Rattle.reasons.specs.Reasons.{holds, is_outside, share_is_outside, has_few, is_lively, is_dull, under_half, trip_length, missing_seconds, short_part, share_of_distance, urban_mean, slow_seconds, few_fast_seconds, too_fast, ends_apart, too_high, too_much_climb, few_products, lively_bin, dull_bin, no_windows, outside_band};
+
 use bins::Bin;
 use tally::Counts;
 use windows::ClassCount;
-ghost use mathlib.Core.Path.{_≡_};
-ghost use Prim.Native.Nat.{_≤_};
-ghost use lib.Dec.{ltb};
-ghost use Rattle·climb.specs.Inside.{climbMost};
-ghost use Rattle·reasons·specs.specs.Numbers.{distanceLeast, otherShareLeast, otherShareMost};
-ghost use Rattle·reasons·specs.specs.Reasons.{holds, isOutside, shareIsOutside, hasFew, isLively, isDull, underHalf, tripLength, missingSeconds, shortPart, shareOfDistance, urbanMean, slowSeconds, fewFastSeconds, tooFast, endsApart, tooHigh, tooMuchClimb, fewProducts, livelyBin, dullBin, noWindows, outsideBand};
 
 // What the reasons are judged from. Bins and classes stand in the order urban, rural, motorway; the
 // bins are the parts of the trip.
+#[derive(Drop)]
 pub struct Figures {
     pub seconds: u32, // n, all seconds
     pub counts: Counts,
@@ -29,7 +29,7 @@ pub struct Figures {
 
 // 0: n outside 5,400 to 7,200.
 pub fn trip_length(figures: Figures) -> bool
-    ensures { λ r. ⌜ r ≡ holds tripLength figures ⌝ }
+    ensures { result ≡ holds trip_length figures }
 {
     is_outside(
         numbers::TRIP_LEAST,
@@ -40,7 +40,7 @@ pub fn trip_length(figures: Figures) -> bool
 
 // 1: 100 times missing not below n, or over 30 missing in a row.
 pub fn missing_seconds(figures: Figures) -> bool
-    ensures { λ r. ⌜ r ≡ holds missingSeconds figures ⌝ }
+    ensures { result ≡ holds missing_seconds figures }
 {
     let seconds = figures.seconds as u64;
     let counts = figures.counts;
@@ -50,7 +50,7 @@ pub fn missing_seconds(figures: Figures) -> bool
 
 // 2: a part's S below 5,760,000.
 pub fn short_part(figures: Figures) -> bool
-    ensures { λ r. ⌜ r ≡ holds shortPart figures ⌝ }
+    ensures { result ≡ holds short_part figures }
 {
     let bins = figures.bins;
     let urban = bins[base::road::URBAN];
@@ -61,14 +61,14 @@ pub fn short_part(figures: Figures) -> bool
 
 // Whether a part's S is too small.
 fn is_short(part: Bin) -> bool
-    ensures { λ r. ⌜ r ≡ ltb (part .distance) distanceLeast ⌝ }
+    ensures { result ≡ ltb part.distance distance_least }
 {
     part.distance < numbers::DISTANCE_LEAST
 }
 
 // 3: a part's share of S outside, in percent, urban 29 to 44, rural and motorway 23 to 43.
 pub fn share_of_distance(figures: Figures) -> bool
-    ensures { λ r. ⌜ r ≡ holds shareOfDistance figures ⌝ }
+    ensures { result ≡ holds share_of_distance figures }
 {
     let total = figures.distance;
     let bins = figures.bins;
@@ -80,14 +80,13 @@ pub fn share_of_distance(figures: Figures) -> bool
         numbers::URBAN_SHARE_MOST,
         total,
         urban.distance,
-    )
-        | other_is_outside(total, rural.distance)
+    ) | other_is_outside(total, rural.distance)
         | other_is_outside(total, motorway.distance)
 }
 
 // Whether the rural or the motorway share of the distance is outside its range.
 fn other_is_outside(total: u32, distance: u32) -> bool
-    ensures { λ r. ⌜ r ≡ shareIsOutside otherShareLeast otherShareMost total distance ⌝ }
+    ensures { result ≡ share_is_outside other_share_least other_share_most total distance }
 {
     share_is_outside(
         numbers::OTHER_SHARE_LEAST,
@@ -99,7 +98,7 @@ fn other_is_outside(total: u32, distance: u32) -> bool
 
 // Whether a part is outside low to high percent of the whole.
 fn share_is_outside(low: u8, high: u8, whole: u32, part: u32) -> bool
-    ensures { λ r. ⌜ r ≡ shareIsOutside low high whole part ⌝ }
+    ensures { result ≡ share_is_outside low high whole part }
 {
     is_outside(
         low as u64 * whole as u64,
@@ -110,14 +109,14 @@ fn share_is_outside(low: u8, high: u8, whole: u32, part: u32) -> bool
 
 // Whether a number is outside a range, which includes its ends.
 fn is_outside(low: u64, high: u64, number: u64) -> bool
-    ensures { λ r. ⌜ r ≡ isOutside low high number ⌝ }
+    ensures { result ≡ is_outside low high number }
 {
     (number < low) | (high < number)
 }
 
 // 4: urban mean outside 1,500 to 4,000.
 pub fn urban_mean(figures: Figures) -> bool
-    ensures { λ r. ⌜ r ≡ holds urbanMean figures ⌝ }
+    ensures { result ≡ holds urban_mean figures }
 {
     let bins = figures.bins;
     let urban = bins[base::road::URBAN];
@@ -131,7 +130,7 @@ pub fn urban_mean(figures: Figures) -> bool
 
 // 5: urban seconds below 100 not 6 to 30 percent of urban seconds.
 pub fn slow_seconds(figures: Figures) -> bool
-    ensures { λ r. ⌜ r ≡ holds slowSeconds figures ⌝ }
+    ensures { result ≡ holds slow_seconds figures }
 {
     let bins = figures.bins;
     let urban = bins[base::road::URBAN];
@@ -146,7 +145,7 @@ pub fn slow_seconds(figures: Figures) -> bool
 
 // 6: fewer than 300 seconds above 10,000.
 pub fn few_fast_seconds(figures: Figures) -> bool
-    ensures { λ r. ⌜ r ≡ holds fewFastSeconds figures ⌝ }
+    ensures { result ≡ holds few_fast_seconds figures }
 {
     let counts = figures.counts;
     counts.fast < numbers::FAST_LEAST
@@ -154,7 +153,7 @@ pub fn few_fast_seconds(figures: Figures) -> bool
 
 // 7: a speed above 16,000, or seconds above 14,500 over 3 percent of motorway seconds.
 pub fn too_fast(figures: Figures) -> bool
-    ensures { λ r. ⌜ r ≡ holds tooFast figures ⌝ }
+    ensures { result ≡ holds too_fast figures }
 {
     let bins = figures.bins;
     let motorway = bins[base::road::MOTORWAY];
@@ -166,29 +165,29 @@ pub fn too_fast(figures: Figures) -> bool
 
 // 8: first and last recorded altitude differ by over 10,000.
 pub fn ends_apart(figures: Figures) -> bool
-    ensures { λ r. ⌜ r ≡ holds endsApart figures ⌝ }
+    ensures { result ≡ holds ends_apart figures }
 {
     figures.apart
 }
 
 // 9: a corrected altitude above 130,000.
 pub fn too_high(figures: Figures) -> bool
-    ensures { λ r. ⌜ r ≡ holds tooHigh figures ⌝ }
+    ensures { result ≡ holds too_high figures }
 {
     figures.high
 }
 
 // 10: 300 times climb not below total S.
 pub fn too_much_climb(figures: Figures) -> bool
-    requires { ⌜ figures .climb ≤ climbMost ⌝ }
-    ensures { λ r. ⌜ r ≡ holds tooMuchClimb figures ⌝ }
+    requires { figures.climb ≤ climb_most }
+    ensures { result ≡ holds too_much_climb figures }
 {
     climb::too_steep(figures.climb, figures.distance)
 }
 
 // 11: a bin with M below 100.
 pub fn few_products(figures: Figures) -> bool
-    ensures { λ r. ⌜ r ≡ holds fewProducts figures ⌝ }
+    ensures { result ≡ holds few_products figures }
 {
     let bins = figures.bins;
     let urban = bins[base::road::URBAN];
@@ -199,14 +198,14 @@ pub fn few_products(figures: Figures) -> bool
 
 // Whether a bin has too few products to be judged for 12 and 13.
 fn has_few(bin: Bin) -> bool
-    ensures { λ r. ⌜ r ≡ hasFew bin ⌝ }
+    ensures { result ≡ has_few bin }
 {
     (bin.m as usize) < percentile::FEWEST
 }
 
 // 12: a bin too lively; one with M below 100 is not judged.
 pub fn lively_bin(figures: Figures) -> bool
-    ensures { λ r. ⌜ r ≡ holds livelyBin figures ⌝ }
+    ensures { result ≡ holds lively_bin figures }
 {
     let bins = figures.bins;
     let urban = bins[base::road::URBAN];
@@ -217,14 +216,14 @@ pub fn lively_bin(figures: Figures) -> bool
 
 // Whether a bin is judged, and too lively.
 fn is_lively(bin: Bin) -> bool
-    ensures { λ r. ⌜ r ≡ isLively bin ⌝ }
+    ensures { result ≡ is_lively bin }
 {
     !has_few(bin) & lively::too_lively(bin.distance, bin.seconds, bin.q)
 }
 
 // 13: a bin too dull; one with M below 100 is not judged.
 pub fn dull_bin(figures: Figures) -> bool
-    ensures { λ r. ⌜ r ≡ holds dullBin figures ⌝ }
+    ensures { result ≡ holds dull_bin figures }
 {
     let bins = figures.bins;
     let urban = bins[base::road::URBAN];
@@ -235,14 +234,14 @@ pub fn dull_bin(figures: Figures) -> bool
 
 // Whether a bin is judged, and too dull.
 fn is_dull(bin: Bin) -> bool
-    ensures { λ r. ⌜ r ≡ isDull bin ⌝ }
+    ensures { result ≡ is_dull bin }
 {
     !has_few(bin) & lively::too_dull(bin.distance, bin.seconds, bin.t)
 }
 
 // 14: a class without windows.
 pub fn no_windows(figures: Figures) -> bool
-    ensures { λ r. ⌜ r ≡ holds noWindows figures ⌝ }
+    ensures { result ≡ holds no_windows figures }
 {
     let classes = figures.classes;
     let urban = classes[base::road::URBAN];
@@ -253,7 +252,7 @@ pub fn no_windows(figures: Figures) -> bool
 
 // 15: a class with windows, under half inside.
 pub fn outside_band(figures: Figures) -> bool
-    ensures { λ r. ⌜ r ≡ holds outsideBand figures ⌝ }
+    ensures { result ≡ holds outside_band figures }
 {
     let classes = figures.classes;
     let urban = classes[base::road::URBAN];
@@ -264,7 +263,7 @@ pub fn outside_band(figures: Figures) -> bool
 
 // Whether a class has windows, and under half of them inside.
 fn under_half(class: ClassCount) -> bool
-    ensures { λ r. ⌜ r ≡ underHalf class ⌝ }
+    ensures { result ≡ under_half class }
 {
     let windows = class.windows as u64;
     let inside = class.inside as u64;

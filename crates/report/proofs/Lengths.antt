@@ -1,15 +1,15 @@
--- Laws of lengths: the words and the decimal digits of each text add up, and no text of words of 64 bits is longer than `longestText`.
+-- Laws of lengths: the words and the decimal digits of each text add up, and no text of words of 64 bits is longer than `longest_text`.
 -- Assumes nothing.
-use Prim.Native.Nat.{ℕ, _+_, _^_, _<_, _≤_}
-use mathlib.Core.Path.{_≡_, refl, _∙_}
-use mathlib.Core.List.{List, _++_}
+use Prim.Native.Nat.{ℕ, ◌+◌, ◌^◌, ◌<◌, ◌≤◌}
+use mathlib.Core.Path.{◌≡◌, refl, ◌∙◌}
+use mathlib.Core.List.{List, ◌++◌}
 use native.Mathlib.Omega.{arith}
 use lib.ListN.{length, length-append}
-use Rattle·report·specs.specs.declared.Judged.{Judged}
-use Rattle·report·specs.specs.declared.ClassLine.{ClassLine}
-use Rattle·text.specs.Text.{bytes, decimal, hex}
-use Rattle·report·specs.specs.Lines.{named, line, classLine, countLines, classLines, reasonsLine, judgedText, refusalText, longestText}
-use Rattle·text.proofs.Decimal.{word-length}
+use Rattle.report.specs.declared.Judged.{Judged}
+use Rattle.report.specs.declared.ClassLine.{ClassLine}
+use Rattle.text.specs.Text.{bytes, decimal, hex}
+use Rattle.report.specs.Lines.{named, line, class_line, count_lines, class_lines, reasons_line, judged_text, refusal_text, longest_text}
+use Rattle.text.proofs.Decimal.{word_length}
 
 -- how many decimal digits a number has
 abbrev pub digits : ℕ → ℕ
@@ -22,65 +22,65 @@ line-length first second a b =
     ∙ omega (arith, length-append (first ++ decimal a) (second ++ decimal b), length-append first (decimal a), length-append second (decimal b))
 
 -- how many decimal digits a class line has
-abbrev pub classDigits : ClassLine → ℕ
-classDigits class = digits (class .windows) + digits (class .inside)
+abbrev pub class_digits : ClassLine → ℕ
+class_digits class = digits class.windows + digits class.inside
 
-pub count-length : (t : Judged) → length (countLines t) ≡ 40 + digits (t .seconds) + digits (t .missing) + digits (t .kept) + digits (t .windows) + digits (t .moves)
-unfolding countLines
+pub count-length : (t : Judged) → length (count_lines t) ≡ 40 + digits t.seconds + digits t.missing + digits t.kept + digits t.windows + digits t.moves
+unfolding count_lines
 count-length t =
-    let one = named "seconds " (t .seconds) in
-    let rest = line " missing " (t .missing) " kept " (t .kept) in
-    let two = line "windows " (t .windows) " moves " (t .moves) in
+    let one = named "seconds " t.seconds in
+    let rest = line " missing " t.missing " kept " t.kept in
+    let two = line "windows " t.windows " moves " t.moves in
     omega
-    (arith, length-append (one ++ rest) two, length-append one rest, length-append (bytes "seconds ") (decimal (t .seconds)), line-length (bytes " missing ") (bytes " kept ") (t .missing) (t .kept), line-length (bytes "windows ") (bytes " moves ") (t .windows) (t .moves))
+    (arith, length-append (one ++ rest) two, length-append one rest, length-append (bytes "seconds ") (decimal t.seconds), line-length (bytes " missing ") (bytes " kept ") t.missing t.kept, line-length (bytes "windows ") (bytes " moves ") t.windows t.moves)
 
-pub class-length : (t : Judged) → length (classLines t) ≡ 27 + classDigits (t .urban) + classDigits (t .rural) + classDigits (t .motorway)
-unfolding classLines
+pub class-length : (t : Judged) → length (class_lines t) ≡ 27 + class_digits t.urban + class_digits t.rural + class_digits t.motorway
+unfolding class_lines
 class-length t =
-    let urban = classLine "urban " (t .urban) in
-    let rural = classLine "rural " (t .rural) in
-    let motorway = classLine "motorway " (t .motorway) in
+    let urban = class_line "urban " t.urban in
+    let rural = class_line "rural " t.rural in
+    let motorway = class_line "motorway " t.motorway in
     omega
-    (arith, length-append (urban ++ rural) motorway, length-append urban rural, line-length (bytes "urban ") (bytes " ") (t .urban .windows) (t .urban .inside), line-length (bytes "rural ") (bytes " ") (t .rural .windows) (t .rural .inside), line-length (bytes "motorway ") (bytes " ") (t .motorway .windows) (t .motorway .inside))
+    (arith, length-append (urban ++ rural) motorway, length-append urban rural, line-length (bytes "urban ") (bytes " ") t.urban.windows t.urban.inside, line-length (bytes "rural ") (bytes " ") t.rural.windows t.rural.inside, line-length (bytes "motorway ") (bytes " ") t.motorway.windows t.motorway.inside)
 
-pub reasons-length : (n : ℕ) → length (reasonsLine n) ≡ 13
-unfolding reasonsLine hex
-reasons-length n = refl
+pub reasons_length : (n : ℕ) → length (reasons_line n) ≡ 13
+unfolding reasons_line hex
+reasons_length n = refl
 
-pub refusal-length : (number place : ℕ) → length (refusalText number place) ≡ 13 + digits number + digits place
-unfolding refusalText
-refusal-length number place = line-length (bytes "refused ") (bytes " at ") number place ∙ omega arith
+pub refusal_length : (number place : ℕ) → length (refusal_text number place) ≡ 13 + digits number + digits place
+unfolding refusal_text
+refusal_length number place = line-length (bytes "refused ") (bytes " at ") number place ∙ omega arith
 
 -- the six lines: the decimal digits and 80 bytes besides
-pub judged-length : (t : Judged) → length (judgedText t) ≡ 80 + digits (t .seconds) + digits (t .missing) + digits (t .kept) + digits (t .windows) + digits (t .moves) + classDigits (t .urban) + classDigits (t .rural) + classDigits (t .motorway)
-unfolding judgedText
+pub judged-length : (t : Judged) → length (judged_text t) ≡ 80 + digits t.seconds + digits t.missing + digits t.kept + digits t.windows + digits t.moves + class_digits t.urban + class_digits t.rural + class_digits t.motorway
+unfolding judged_text
 judged-length t =
     omega
-    (arith, length-append (countLines t ++ classLines t) (reasonsLine (t .reasons)), length-append (countLines t) (classLines t), count-length t, class-length t, reasons-length (t .reasons))
+    (arith, length-append (count_lines t ++ class_lines t) (reasons_line t.reasons), length-append (count_lines t) (class_lines t), count-length t, class-length t, reasons_length t.reasons)
 
 -- numbers of 64 bits
 abbrev Word : ℕ → Type 0
 Word n = n < 2 ^ 64
 
 pub record ClassWords (class : ClassLine) : Type 0 where
-  pub windows : Word (class .windows)
-  pub inside : Word (class .inside)
+  pub windows : Word class.windows
+  pub inside : Word class.inside
 
 pub record Words (t : Judged) : Type 0 where
-  pub seconds : Word (t .seconds)
-  pub missing : Word (t .missing)
-  pub kept : Word (t .kept)
-  pub windows : Word (t .windows)
-  pub moves : Word (t .moves)
-  pub urban : ClassWords (t .urban)
-  pub rural : ClassWords (t .rural)
-  pub motorway : ClassWords (t .motorway)
+  pub seconds : Word t.seconds
+  pub missing : Word t.missing
+  pub kept : Word t.kept
+  pub windows : Word t.windows
+  pub moves : Word t.moves
+  pub urban : ClassWords t.urban
+  pub rural : ClassWords t.rural
+  pub motorway : ClassWords t.motorway
 
--- no text is longer than `longestText`
-pub judged-longest : (t : Judged) → Words t → length (judgedText t) ≤ longestText
+-- no text is longer than `longest_text`
+pub judged-longest : (t : Judged) → Words t → length (judged_text t) ≤ longest_text
 judged-longest t w =
     omega
-    (arith, judged-length t, word-length (t .seconds) (w .seconds), word-length (t .missing) (w .missing), word-length (t .kept) (w .kept), word-length (t .windows) (w .windows), word-length (t .moves) (w .moves), word-length (t .urban .windows) (w .urban .windows), word-length (t .urban .inside) (w .urban .inside), word-length (t .rural .windows) (w .rural .windows), word-length (t .rural .inside) (w .rural .inside), word-length (t .motorway .windows) (w .motorway .windows), word-length (t .motorway .inside) (w .motorway .inside))
+    (arith, judged-length t, word_length t.seconds w.seconds, word_length t.missing w.missing, word_length t.kept w.kept, word_length t.windows w.windows, word_length t.moves w.moves, word_length t.urban.windows w.urban.windows, word_length t.urban.inside w.urban.inside, word_length t.rural.windows w.rural.windows, word_length t.rural.inside w.rural.inside, word_length t.motorway.windows w.motorway.windows, word_length t.motorway.inside w.motorway.inside)
 
-pub refusal-longest : (number place : ℕ) → Word number → Word place → length (refusalText number place) ≤ longestText
-refusal-longest number place n p = omega (arith, refusal-length number place, word-length number n, word-length place p)
+pub refusal_longest : (number place : ℕ) → Word number → Word place → length (refusal_text number place) ≤ longest_text
+refusal_longest number place n p = omega (arith, refusal_length number place, word_length number n, word_length place p)

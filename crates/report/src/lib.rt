@@ -1,21 +1,20 @@
 // The printed lines of a trip, as bytes in a lent buffer: the six lines of a judged trip, or the
 // one line of a refusal. specs/Lines.antt says what is right, letter by letter.
 
-ghost use mathlib.Core.Path.{_≡_};
-ghost use Prim.Native.Nat.{_+_, _*_, _≤_};
-ghost use lib.Dec.{leb};
-ghost use lib.ListN.{length};
-ghost use Rattle·text.specs.Text.{decimal};
-ghost use Rattle·report·specs.specs.Lines.{countLines, classLines, reasonsLine, judgedText, refusalText, lengthWritten, bufferWritten};
-ghost use Rattle·text.specs.Inside.{wordDigits, Wrote};
+ghost use Rattle.std.specs.Prelude.{◌≡◌, ◌+◌, ◌*◌, ◌≤◌, leb, length};
+ghost use Rattle.text.specs.Text.{decimal};
+ghost use Rattle.report.specs.Lines.{count_lines, class_lines, reasons_line, judged_text, refusal_text, length_written, buffer_written};
+ghost use Rattle.text.specs.Inside.{word_digits, Wrote};
 
 // A class line: the windows of a class, and those of them that are inside.
+#[derive(Drop)]
 pub struct ClassLine {
     pub windows: u64,
     pub inside: u64,
 }
 
 // The numbers of the six lines.
+#[derive(Drop)]
 pub struct Judged {
     pub seconds: u64, // all seconds
     pub missing: u64,
@@ -34,7 +33,7 @@ pub const LONGEST_TEXT: usize = 300;
 // Writes the six lines to the front of a buffer and answers how many bytes they take; where they
 // do not fit, writes nothing and answers 0.
 pub fn report(trip: Judged, buffer: &mut [u8]) -> usize
-    ensures { λ r. ⌜ (r ≡ lengthWritten (judgedText trip) (now (buffer .entry))) × (now (buffer .exit) ≡ bufferWritten (judgedText trip) (now (buffer .entry))) ⌝ }
+    ensures { (result ≡ length_written (judged_text trip) buffer.old) × (buffer.new ≡ buffer_written (judged_text trip) buffer.old) }
 {
     if judged_fits(trip, buffer.len()) {
         put_judged(buffer, 0, trip)
@@ -45,7 +44,7 @@ pub fn report(trip: Judged, buffer: &mut [u8]) -> usize
 
 // Writes the one line of a refusal, as `report` does the six.
 pub fn report_refusal(number: u8, place: usize, buffer: &mut [u8]) -> usize
-    ensures { λ r. ⌜ (r ≡ lengthWritten (refusalText number place) (now (buffer .entry))) × (now (buffer .exit) ≡ bufferWritten (refusalText number place) (now (buffer .entry))) ⌝ }
+    ensures { (result ≡ length_written (refusal_text number place) buffer.old) × (buffer.new ≡ buffer_written (refusal_text number place) buffer.old) }
 {
     let number = number as u64;
     let place = place as u64;
@@ -64,7 +63,7 @@ const REFUSAL_WORDS: usize = 13;
 
 // Whether the six lines fit a buffer of that length. Only a short one has the digits counted.
 fn judged_fits(trip: Judged, room: usize) -> bool
-    ensures { λ r. ⌜ r ≡ leb (length (judgedText trip)) room ⌝ }
+    ensures { result ≡ leb (length (judged_text trip)) room }
 {
     if LONGEST_TEXT <= room {
         return true;
@@ -74,7 +73,7 @@ fn judged_fits(trip: Judged, room: usize) -> bool
 
 // The length of the six lines.
 fn judged_length(trip: Judged) -> usize
-    ensures { λ r. ⌜ r ≡ length (judgedText trip) ⌝ }
+    ensures { result ≡ length (judged_text trip) }
 {
     let urban = trip.urban;
     let rural = trip.rural;
@@ -92,7 +91,7 @@ fn judged_length(trip: Judged) -> usize
 
 // How many decimal digits a class line has.
 fn class_digits(class: ClassLine) -> usize
-    ensures { λ r. ⌜ (r ≡ length (decimal (class .windows)) + length (decimal (class .inside))) × (r ≤ 2 * wordDigits) ⌝ }
+    ensures { (result ≡ length (decimal class.windows) + length (decimal class.inside)) × (result ≤ 2 * word_digits) }
 {
     text::digit_count(class.windows) + text::digit_count(class.inside)
 }
@@ -102,8 +101,8 @@ fn class_digits(class: ClassLine) -> usize
 
 // The six lines.
 fn put_judged(buffer: &mut [u8], at: usize, trip: Judged) -> usize
-    requires { ⌜ at + length (judgedText trip) ≤ length (now buffer) ⌝ }
-    ensures { λ r. ⌜ Wrote (now (buffer .entry)) at (judgedText trip) (now (buffer .exit)) r ⌝ }
+    requires { at + length (judged_text trip) ≤ length buffer.old }
+    ensures { Wrote buffer.old at (judged_text trip) buffer.new result }
 {
     let reasons = trip.reasons;
     let at = put_count_lines(buffer, at, trip);
@@ -113,8 +112,8 @@ fn put_judged(buffer: &mut [u8], at: usize, trip: Judged) -> usize
 
 // Lines 1 and 2.
 fn put_count_lines(buffer: &mut [u8], at: usize, trip: Judged) -> usize
-    requires { ⌜ at + length (countLines trip) ≤ length (now buffer) ⌝ }
-    ensures { λ r. ⌜ Wrote (now (buffer .entry)) at (countLines trip) (now (buffer .exit)) r ⌝ }
+    requires { at + length (count_lines trip) ≤ length buffer.old }
+    ensures { Wrote buffer.old at (count_lines trip) buffer.new result }
 {
     let seconds = trip.seconds;
     let missing = trip.missing;
@@ -128,8 +127,8 @@ fn put_count_lines(buffer: &mut [u8], at: usize, trip: Judged) -> usize
 
 // The class lines.
 fn put_class_lines(buffer: &mut [u8], at: usize, trip: Judged) -> usize
-    requires { ⌜ at + length (classLines trip) ≤ length (now buffer) ⌝ }
-    ensures { λ r. ⌜ Wrote (now (buffer .entry)) at (classLines trip) (now (buffer .exit)) r ⌝ }
+    requires { at + length (class_lines trip) ≤ length buffer.old }
+    ensures { Wrote buffer.old at (class_lines trip) buffer.new result }
 {
     let urban = trip.urban;
     let rural = trip.rural;
@@ -148,8 +147,8 @@ fn put_class_lines(buffer: &mut [u8], at: usize, trip: Judged) -> usize
 
 // The line of the reasons.
 fn put_reasons_line(buffer: &mut [u8], at: usize, reasons: u16) -> usize
-    requires { ⌜ at + length (reasonsLine reasons) ≤ length (now buffer) ⌝ }
-    ensures { λ r. ⌜ Wrote (now (buffer .entry)) at (reasonsLine reasons) (now (buffer .exit)) r ⌝ }
+    requires { at + length (reasons_line reasons) ≤ length buffer.old }
+    ensures { Wrote buffer.old at (reasons_line reasons) buffer.new result }
 {
     let digits = text::put_words(buffer, at, b"reasons ");
     let end = text::put_hex(buffer, digits, reasons);

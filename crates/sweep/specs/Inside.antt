@@ -1,12 +1,8 @@
 -- What the steps inside the sweep may take for granted, once the call is accepted.
-use Prim.Native.Nat.{ℕ, _+_, _-_, _^_, _≤_, _<_}
-use mathlib.Core.Bool.{Bool, _||_}
-use mathlib.Core.List.{List}
-use lib.Dec.{leb, ltb, eqb}
-use lib.ListN.{length, getD}
-use Rattle·base.specs.Words.{sum}
-use Rattle·sweep·specs.specs.declared.SweepState.{SweepState}
-use Rattle·sweep·specs.specs.Runs.{Standing}
+use Rattle.std.specs.Prelude.{ℕ, ◌+◌, ◌-◌, ◌^◌, ◌≤◌, ◌<◌, Bool, ◌||◌, List, leb, ltb, eqb, length, get_or}
+use Rattle.base.specs.Words.{sum}
+use Rattle.sweep.specs.declared.SweepState.{SweepState}
+use Rattle.sweep.specs.Runs.{Standing}
 
 -- kept masses whose numbers fit a u16 and whose sum fits a u32
 pub record Measured (co2 : List ℕ) : Type 0 where
@@ -21,8 +17,8 @@ pub record Ready (reference : ℕ) (co2 : List ℕ) (room : ℕ) (s : SweepState
   pub places : length co2 ≤ room
 
 -- the tests of the last second dropped and of the last second taken, from the mass that is left
-abbrev pub closedRightly : ℕ → List ℕ → ℕ → ℕ → Bool
-closedRightly reference co2 dropped mass = eqb dropped 0 || leb reference (mass + getD co2 (dropped - 1) 0)
+abbrev pub closed_rightly : ℕ → List ℕ → ℕ → ℕ → Bool
+closed_rightly reference co2 dropped mass = eqb dropped 0 || leb reference (mass + get_or co2 (dropped - 1) 0)
 
-abbrev pub neededLast : ℕ → List ℕ → ℕ → ℕ → Bool
-neededLast reference co2 taken mass = eqb taken 0 || ltb mass (reference + getD co2 (taken - 1) 0)
+abbrev pub needed_last : ℕ → List ℕ → ℕ → ℕ → Bool
+needed_last reference co2 taken mass = eqb taken 0 || ltb mass (reference + get_or co2 (taken - 1) 0)

@@ -2,16 +2,14 @@
 // CO2 mass reaches the reference. A run makes a budget of moves and can be taken up again.
 // specs/Window.antt says what a window is, specs/Sweep.antt what a move, a run and an answer are.
 
-ghost use mathlib.Core.Path.{_≡_};
-ghost use Prim.Native.Nat.{_^_, _<_, _≤_};
-ghost use lib.Dec.{leb};
-ghost use lib.ListN.{length};
-ghost use Rattle·base.specs.Words.{sum};
-ghost use Rattle·sweep·specs.specs.Sweep.{isOver, move, moveEnds, afterMoves, endsAfter, isReached, firstOutOfRange, placeOf, refusedAnswer, sweepRefusal, sweepAnswer, sweepEnds};
-ghost use Rattle·sweep·specs.specs.Inside.{Measured, Ready, closedRightly, neededLast};
+ghost use Rattle.std.specs.Prelude.{◌≡◌, ◌^◌, ◌<◌, ◌≤◌, leb, length};
+ghost use Rattle.base.specs.Words.{sum};
+ghost use Rattle.sweep.specs.Sweep.{is_over, move, move_ends, after_moves, ends_after, is_reached, first_out_of_range, place_of, refused_answer, sweep_refusal, sweep_answer, sweep_ends};
+ghost use Rattle.sweep.specs.Inside.{Measured, Ready, closed_rightly, needed_last};
 
 // Where a sweep stands. It begins with all four zero.
 #[repr(C)]
+#[derive(Drop)]
 pub struct SweepState {
     pub taken: u64, // kept seconds taken
     pub dropped: u64, // kept seconds dropped: as many windows are closed
@@ -21,6 +19,7 @@ pub struct SweepState {
 
 // The answer of a call of the sweep.
 #[repr(C)]
+#[derive(Drop)]
 pub struct Swept {
     pub refusal: u8, // 0, or 5, 2, 6, 3, 13
     pub place: usize, // for refusal 3 the index of the first bad mass, else 0
@@ -32,7 +31,7 @@ pub struct Swept {
 // Sweeps on from a state with a budget of moves. The lane of ends needs a place for each kept
 // second; the place of a first second gets its window's end, first kept second numbered 1.
 pub fn sweep(reference: u32, co2: &[u32], ends: &mut [u16], state: SweepState, budget: u64) -> Swept
-    ensures { λ r. ⌜ (r ≡ sweepAnswer reference (now (co2 .entry)) (length (now (ends .entry))) state budget) × (now (ends .exit) ≡ sweepEnds reference (now (co2 .entry)) (now (ends .entry)) state budget) ⌝ }
+    ensures { (result ≡ sweep_answer reference co2.now (length ends.old) state budget) × (ends.new ≡ sweep_ends reference co2.now ends.old state budget) }
 {
     let refusal = refusal_of(reference, co2, ends.len(), state);
     if refusal != base::refusal::ACCEPTED {
@@ -50,7 +49,7 @@ pub fn sweep(reference: u32, co2: &[u32], ends: &mut [u16], state: SweepState, b
 
 // The number of refusal of a call, 0 where it is accepted; the lane of ends has this room.
 fn refusal_of(reference: u32, co2: &[u32], room: usize, state: SweepState) -> u8
-    ensures { λ r. ⌜ r ≡ sweepRefusal reference (now (co2 .entry)) room state ⌝ }
+    ensures { result ≡ sweep_refusal reference co2.now room state }
 {
     if !base::reference_in_range(reference) {
         return base::refusal::PLAN_OUT_OF_RANGE;
@@ -72,7 +71,7 @@ fn refusal_of(reference: u32, co2: &[u32], room: usize, state: SweepState) -> u8
 
 // The answer of a refusal: its number and place, and zeros.
 fn refused(refusal: u8, co2: &[u32]) -> Swept
-    ensures { λ r. ⌜ r ≡ refusedAnswer (now (co2 .entry)) refusal ⌝ }
+    ensures { result ≡ refused_answer co2.now refusal }
 {
     let state = SweepState {
         taken: 0,
@@ -91,7 +90,7 @@ fn refused(refusal: u8, co2: &[u32]) -> Swept
 
 // The place of a refusal: the first bad mass, where it is for one.
 fn place_of(refusal: u8, co2: &[u32]) -> usize
-    ensures { λ r. ⌜ r ≡ placeOf (now (co2 .entry)) refusal ⌝ }
+    ensures { result ≡ place_of co2.now refusal }
 {
     if refusal != base::refusal::OUT_OF_RANGE {
         return 0;
@@ -101,7 +100,7 @@ fn place_of(refusal: u8, co2: &[u32]) -> usize
 
 // The first kept mass that is out of range, or the number of masses.
 fn first_out_of_range(co2: &[u32]) -> usize
-    ensures { λ r. ⌜ r ≡ firstOutOfRange (now (co2 .entry)) ⌝ }
+    ensures { result ≡ first_out_of_range co2.now }
 {
     let mut i = 0;
     while i < co2.len() {
@@ -115,7 +114,7 @@ fn first_out_of_range(co2: &[u32]) -> usize
 
 // Whether no kept mass is out of range. It looks at each, so that many are compared at a time.
 fn all_in_range(co2: &[u32]) -> bool
-    ensures { λ r. ⌜ r ≡ leb (length (now (co2 .entry))) (firstOutOfRange (now (co2 .entry))) ⌝ }
+    ensures { result ≡ leb (length co2.now) (first_out_of_range co2.now) }
 {
     let mut fine = true;
     let mut i = 0;
@@ -130,8 +129,8 @@ fn all_in_range(co2: &[u32]) -> bool
 // seconds taken and not dropped, the last second dropped was the first of a window, and the last
 // second taken was needed.
 fn is_reached(reference: u32, co2: &[u32], state: SweepState) -> bool
-    requires { ⌜ (1 ≤ reference) × Measured (now co2) ⌝ }
-    ensures { λ r. ⌜ r ≡ isReached reference (now (co2 .entry)) state ⌝ }
+    requires { (1 ≤ reference) × Measured co2.now }
+    ensures { result ≡ is_reached reference co2.now state }
 {
     let taken = state.taken;
     let dropped = state.dropped;
@@ -155,8 +154,8 @@ fn is_reached(reference: u32, co2: &[u32], state: SweepState) -> bool
 
 // Whether the last second dropped was the first of a window, where this mass was left.
 fn closed_rightly(reference: u32, co2: &[u32], dropped: usize, mass: u64) -> bool
-    requires { ⌜ (dropped ≤ length (now co2)) × (mass < 2 ^ 32) ⌝ }
-    ensures { λ r. ⌜ r ≡ closedRightly reference (now (co2 .entry)) dropped mass ⌝ }
+    requires { (dropped ≤ length co2.now) × (mass < 2 ^ 32) }
+    ensures { result ≡ closed_rightly reference co2.now dropped mass }
 {
     if dropped == 0 {
         return true;
@@ -166,8 +165,8 @@ fn closed_rightly(reference: u32, co2: &[u32], dropped: usize, mass: u64) -> boo
 
 // Whether the last second taken was needed, where this mass was left.
 fn needed_last(reference: u32, co2: &[u32], taken: usize, mass: u64) -> bool
-    requires { ⌜ taken ≤ length (now co2) ⌝ }
-    ensures { λ r. ⌜ r ≡ neededLast reference (now (co2 .entry)) taken mass ⌝ }
+    requires { taken ≤ length co2.now }
+    ensures { result ≡ needed_last reference co2.now taken mass }
 {
     if taken == 0 {
         return true;
@@ -177,8 +176,8 @@ fn needed_last(reference: u32, co2: &[u32], taken: usize, mass: u64) -> bool
 
 // The sum of kept masses. Both halves are added at once, in half the steps.
 pub fn total(co2: &[u32]) -> u32
-    requires { ⌜ sum (now co2) < 2 ^ 32 ⌝ }
-    ensures { λ r. ⌜ r ≡ sum (now (co2 .entry)) ⌝ }
+    requires { sum co2.now < 2 ^ 32 }
+    ensures { result ≡ sum co2.now }
 {
     let half = co2.len() / 2;
     let mut mass: u32 = 0;
@@ -195,8 +194,8 @@ pub fn total(co2: &[u32]) -> u32
 
 // Makes the budget's moves, or fewer where the sweep is over: a move that counts none finds it so.
 fn run(reference: u32, co2: &[u32], ends: &mut [u16], start: SweepState, budget: u64) -> SweepState
-    requires { ⌜ Ready reference (now co2) (length (now ends)) start ⌝ }
-    ensures { λ r. ⌜ (r ≡ afterMoves reference (now (co2 .entry)) budget start) × (now (ends .exit) ≡ endsAfter reference (now (co2 .entry)) budget start (now (ends .entry))) ⌝ }
+    requires { Ready reference co2.now (length ends.old) start }
+    ensures { (result ≡ after_moves reference co2.now budget start) × (ends.new ≡ ends_after reference co2.now budget start ends.old) }
 {
     let from = start.moves;
     let mut state = start;
@@ -213,15 +212,15 @@ fn run(reference: u32, co2: &[u32], ends: &mut [u16], start: SweepState, budget:
 
 // Whether no move is left.
 fn is_over(reference: u32, co2: &[u32], state: SweepState) -> bool
-    ensures { λ r. ⌜ r ≡ isOver reference (now (co2 .entry)) state ⌝ }
+    ensures { result ≡ is_over reference co2.now state }
 {
     (state.mass < reference as u64) & ((co2.len() as u64) <= state.taken)
 }
 
 // One move.
 fn one_move(reference: u32, co2: &[u32], ends: &mut [u16], state: SweepState) -> SweepState
-    requires { ⌜ Ready reference (now co2) (length (now ends)) state ⌝ }
-    ensures { λ r. ⌜ (r ≡ move reference (now (co2 .entry)) state) × (now (ends .exit) ≡ moveEnds reference (now (co2 .entry)) state (now (ends .entry))) ⌝ }
+    requires { Ready reference co2.now (length ends.old) state }
+    ensures { (result ≡ move reference co2.now state) × (ends.new ≡ move_ends reference co2.now state ends.old) }
 {
     let taken = state.taken;
     let dropped = state.dropped;

@@ -1,32 +1,30 @@
 -- The counts of states and speeds that the reasons ask for.
-use Prim.Native.Nat.{ℕ, suc, _+_, max}
-use mathlib.Core.List.{List}
-use lib.ListN.{length}
-use Rattle·base.specs.Words.{pick, afterFirst, howMany}
-use Rattle·tally·specs.specs.Numbers.{fastAbove, fasterAbove, fastestAbove}
-use Rattle·tally·specs.specs.Sets.{isMissing, isSlowUrban, isAbove}
-use Rattle·tally·specs.specs.declared.Counts.{Counts}
+use Rattle.std.specs.Prelude.{ℕ, suc, ◌+◌, max, List, length}
+use Rattle.base.specs.Words.{pick, after_first, how_many}
+use Rattle.tally.specs.Numbers.{fast_above, faster_above, fastest_above}
+use Rattle.tally.specs.Sets.{is_missing, is_slow_urban, is_above}
+use Rattle.tally.specs.declared.Counts.{Counts}
 
 -- the missing seconds in a row with which the first i seconds end
-unfoldable pub gapAfter : List ℕ → ℕ → ℕ
-gapAfter states = afterFirst (λ i gap. pick (isMissing states i) (gap + 1) 0) 0
+unfoldable pub gap_after : List ℕ → ℕ → ℕ
+gap_after states = after_first (λ i gap. pick (is_missing states i) (gap + 1) 0) 0
 
 -- the most missing seconds in a row among the first i seconds
-unfoldable pub longestGap : List ℕ → ℕ → ℕ
-longestGap states = afterFirst (λ i longest. max longest (gapAfter states (suc i))) 0
+unfoldable pub longest_gap : List ℕ → ℕ → ℕ
+longest_gap states = after_first (λ i longest. max longest (gap_after states (suc i))) 0
 
 -- the counts of the first i seconds
-unfoldable pub countsAfter : List ℕ → List ℕ → ℕ → Counts
-countsAfter states speeds i =
+unfoldable pub counts_after : List ℕ → List ℕ → ℕ → Counts
+counts_after states speeds i =
     record {
-      missing = howMany (isMissing states) i;
-      gap = longestGap states i;
-      slow = howMany (isSlowUrban states speeds) i;
-      fast = howMany (isAbove states speeds fastAbove) i;
-      faster = howMany (isAbove states speeds fasterAbove) i;
-      fastest = howMany (isAbove states speeds fastestAbove) i;
+      missing = how_many (is_missing states) i;
+      gap = longest_gap states i;
+      slow = how_many (is_slow_urban states speeds) i;
+      fast = how_many (is_above states speeds fast_above) i;
+      faster = how_many (is_above states speeds faster_above) i;
+      fastest = how_many (is_above states speeds fastest_above) i;
     }
 
 -- the counts of the trip
-abbrev pub countsOf : List ℕ → List ℕ → Counts
-countsOf states speeds = countsAfter states speeds (length states)
+abbrev pub counts_of : List ℕ → List ℕ → Counts
+counts_of states speeds = counts_after states speeds (length states)

@@ -1,17 +1,17 @@
 // What a trip's seconds come to: a tally for each bin, and the counts of states and speeds that the
 // reasons ask for. Each figure is one definition in specs/, a sum over a set of seconds.
 
-ghost use mathlib.Core.Path.{_≡_};
-ghost use Prim.Native.Nat.{_+_, _^_, _≤_, _<_, max};
-ghost use Rattle·base.specs.Limits.{countMost};
-ghost use Rattle·base.specs.Words.{pick};
-ghost use Rattle·second.specs.Row.{markedCount};
-ghost use Rattle·tally·specs.specs.Tally.{massOf, lacksCount};
-ghost use Rattle·tally·specs.specs.Counts.{countsOf};
-ghost use Rattle·tally·specs.specs.Inside.{TallyLanes, Room, withSecond, binTallies, added, CountLanes, Few, gapWith, countsWith};
+ghost use Rattle.std.specs.Prelude.{◌≡◌, ◌+◌, ◌^◌, ◌≤◌, ◌<◌, max};
+ghost use Rattle.base.specs.Limits.{count_most};
+ghost use Rattle.base.specs.Words.{pick};
+ghost use Rattle.second.specs.Row.{marked_count};
+ghost use Rattle.tally.specs.Tally.{mass_of, lacks_count};
+ghost use Rattle.tally.specs.Counts.{counts_of};
+ghost use Rattle.tally.specs.Inside.{TallyLanes, Room, with_second, bin_tallies, added, CountLanes, Few, gap_with, counts_with};
 
 // Seconds taken together: one for each bin, and one for the trip.
 #[repr(C)]
+#[derive(Drop)]
 pub struct Tally {
     pub seconds: u32,
     pub distance: u32, // the sum of the speeds, 0.01 km/h: one km is 360,000
@@ -22,6 +22,7 @@ pub struct Tally {
 }
 
 // What the reasons ask of states and speeds.
+#[derive(Drop)]
 pub struct Counts {
     pub missing: u32,
     pub gap: u32, // the most missing seconds in a row
@@ -49,8 +50,8 @@ pub fn tally_bins(
     counts: &[u64],
     marks: &[u8],
 ) -> [Tally; 3]
-    requires { ⌜ TallyLanes (now states) (now speeds) (now co2) (now nox) (now counts) (now marks) ⌝ }
-    ensures { λ r. ⌜ r ≡ binTallies (now (states .entry)) (now (speeds .entry)) (now (co2 .entry)) (now (nox .entry)) (now (counts .entry)) (now (marks .entry)) ⌝ }
+    requires { TallyLanes states.now speeds.now co2.now nox.now counts.now marks.now }
+    ensures { result ≡ bin_tallies states.now speeds.now co2.now nox.now counts.now marks.now }
 {
     let mut bins = [Tally {
         seconds: 0,
@@ -66,13 +67,7 @@ pub fn tally_bins(
         let bin = second::bin_of(speed);
         let before = bins[bin];
         bins[bin] = with_second(
-            before,
-            states[i],
-            speed,
-            co2[i],
-            nox[i],
-            counts[i],
-            marks[i],
+            before, states[i], speed, co2[i], nox[i], counts[i], marks[i],
         );
         i += 1;
     }
@@ -90,9 +85,9 @@ fn with_second(
     count: u64,
     mark: u8,
 ) -> Tally
-    requires { ⌜ Room before ⌝ }
-    requires { ⌜ markedCount count mark ≤ countMost ⌝ }
-    ensures { λ r. ⌜ r ≡ withSecond before state speed co2 nox count mark ⌝ }
+    requires room { Room before }
+    requires mark_bound { marked_count count mark ≤ count_most }
+    ensures { result ≡ with_second before state speed co2 nox count mark }
 {
     let seconds = before.seconds;
     let distance = before.distance;
@@ -115,7 +110,7 @@ fn with_second(
 
 // The mass of a second in this state, as it counts: a check second's masses do not.
 fn mass_of(state: u8, mass: u32) -> u32
-    ensures { λ r. ⌜ (r ≡ massOf state mass) × (r < 2 ^ 32) ⌝ }
+    ensures { (result ≡ mass_of state mass) × (result < 2 ^ 32) }
 {
     if state == base::state::MEASURED {
         return mass;
@@ -125,7 +120,7 @@ fn mass_of(state: u8, mass: u32) -> u32
 
 // The particles of a second, as they count: a count that is not marked does not.
 fn count_of(count: u64, mark: u8) -> u64
-    ensures { λ r. ⌜ r ≡ markedCount count mark ⌝ }
+    ensures { result ≡ marked_count count mark }
 {
     if mark == base::mark::MARKED {
         return count;
@@ -135,14 +130,14 @@ fn count_of(count: u64, mark: u8) -> u64
 
 // Whether a second in this state is measured, and its count is not marked.
 fn lacks_count(state: u8, mark: u8) -> bool
-    ensures { λ r. ⌜ r ≡ lacksCount state mark ⌝ }
+    ensures { result ≡ lacks_count state mark }
 {
     (state == base::state::MEASURED) & (mark != base::mark::MARKED)
 }
 
 // A total of particles, and 0 where it is not available.
 fn total_if(available: bool, total: u64) -> u64
-    ensures { λ r. ⌜ r ≡ pick available total 0 ⌝ }
+    ensures { result ≡ pick available total 0 }
 {
     if available {
         return total;
@@ -152,8 +147,8 @@ fn total_if(available: bool, total: u64) -> u64
 
 // The tallies of the bins added up: the tally of the trip.
 pub fn total(bins: [Tally; 3]) -> Tally
-    requires { ⌜ Room (added bins) ⌝ }
-    ensures { λ r. ⌜ r ≡ added bins ⌝ }
+    requires { Room (added bins) }
+    ensures { result ≡ added bins }
 {
     let urban = bins[base::road::URBAN];
     let rural = bins[base::road::RURAL];
@@ -176,8 +171,8 @@ pub fn total(bins: [Tally; 3]) -> Tally
 
 // Three totals of particles added up, and 0 where one of them is not available.
 fn sum_if(available: bool, urban: u64, rural: u64, motorway: u64) -> u64
-    requires { ⌜ pick available (urban + rural + motorway) 0 < 2 ^ 63 ⌝ }
-    ensures { λ r. ⌜ r ≡ pick available (urban + rural + motorway) 0 ⌝ }
+    requires { pick available (urban + rural + motorway) 0 < 2 ^ 63 }
+    ensures { result ≡ pick available (urban + rural + motorway) 0 }
 {
     if available {
         return urban + rural + motorway;
@@ -187,8 +182,8 @@ fn sum_if(available: bool, urban: u64, rural: u64, motorway: u64) -> u64
 
 // The counts of states and speeds.
 pub fn count_seconds(states: &[u8], speeds: &[u16]) -> Counts
-    requires { ⌜ CountLanes (now states) (now speeds) ⌝ }
-    ensures { λ r. ⌜ r ≡ countsOf (now (states .entry)) (now (speeds .entry)) ⌝ }
+    requires { CountLanes states.now speeds.now }
+    ensures { result ≡ counts_of states.now speeds.now }
 {
     let mut counts = Counts {
         missing: 0,
@@ -211,8 +206,8 @@ pub fn count_seconds(states: &[u8], speeds: &[u16]) -> Counts
 
 // The missing seconds in a row that end with a second in this state.
 fn gap_with(gap: u32, state: u8) -> u32
-    requires { ⌜ gap < 2 ^ 16 ⌝ }
-    ensures { λ r. ⌜ r ≡ gapWith gap state ⌝ }
+    requires { gap < 2 ^ 16 }
+    ensures { result ≡ gap_with gap state }
 {
     if state == base::state::MISSING {
         return gap + 1;
@@ -223,8 +218,8 @@ fn gap_with(gap: u32, state: u8) -> u32
 // The counts with one more second, in this state and with this speed, where so many missing seconds
 // in a row end with it.
 fn counts_with(before: Counts, gap: u32, state: u8, speed: u16) -> Counts
-    requires { ⌜ Few before ⌝ }
-    ensures { λ r. ⌜ r ≡ countsWith before gap state speed ⌝ }
+    requires { Few before }
+    ensures { result ≡ counts_with before gap state speed }
 {
     let present = second::has_values(state);
     let missing = before.missing;
@@ -244,8 +239,8 @@ fn counts_with(before: Counts, gap: u32, state: u8, speed: u16) -> Counts
 
 // A count with one more where a test holds.
 fn one_more_if(test: bool, count: u32) -> u32
-    requires { ⌜ count < 2 ^ 16 ⌝ }
-    ensures { λ r. ⌜ r ≡ count + pick test 1 0 ⌝ }
+    requires { count < 2 ^ 16 }
+    ensures { result ≡ count + pick test 1 0 }
 {
     if test {
         return count + 1;
@@ -255,7 +250,7 @@ fn one_more_if(test: bool, count: u32) -> u32
 
 // The larger of two numbers.
 fn larger_of(a: u32, b: u32) -> u32
-    ensures { λ r. ⌜ r ≡ max a b ⌝ }
+    ensures { result ≡ max a b }
 {
     if a < b {
         return b;

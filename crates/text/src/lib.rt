@@ -2,12 +2,9 @@
 // the place behind it; the caller has seen to it that the text fits. specs/Text.antt says what is
 // right.
 
-ghost use mathlib.Core.Path.{_≡_};
-ghost use mathlib.Core.List.{_++_};
-ghost use Prim.Native.Nat.{_+_, _<_, _≤_};
-ghost use lib.ListN.{length};
-ghost use Rattle·text·specs.specs.Text.{bytes, digit, decimal, hex};
-ghost use Rattle·text·specs.specs.Inside.{wordDigits, Wrote};
+ghost use Rattle.std.specs.Prelude.{◌≡◌, ◌++◌, ◌+◌, ◌<◌, ◌≤◌, length};
+ghost use Rattle.text.specs.Text.{bytes, digit, decimal, hex};
+ghost use Rattle.text.specs.Inside.{word_digits, Wrote};
 
 // The bases of the digits, and what the upper places of a hex text count.
 const TEN: u64 = 10;
@@ -20,8 +17,8 @@ const SIXTEEN_CUBED: u64 = 4_096;
 
 // Two numbers, each behind its words, and the line end.
 pub fn put_line(buffer: &mut [u8], at: usize, first: &[u8], a: u64, second: &[u8], b: u64) -> usize
-    requires { ⌜ at + length (now first ++ decimal a ++ (now second ++ decimal b) ++ bytes "\n") ≤ length (now buffer) ⌝ }
-    ensures { λ r. ⌜ Wrote (now (buffer .entry)) at (now (first .entry) ++ decimal a ++ (now (second .entry) ++ decimal b) ++ bytes "\n") (now (buffer .exit)) r ⌝ }
+    requires { at + length (first.now ++ decimal a ++ (second.now ++ decimal b) ++ bytes "\n") ≤ length buffer.old }
+    ensures { Wrote buffer.old at (first.now ++ decimal a ++ (second.now ++ decimal b) ++ bytes "\n") buffer.new result }
 {
     let at = put_named(buffer, at, first, a);
     let at = put_named(buffer, at, second, b);
@@ -30,8 +27,8 @@ pub fn put_line(buffer: &mut [u8], at: usize, first: &[u8], a: u64, second: &[u8
 
 // Words and the number behind them.
 pub fn put_named(buffer: &mut [u8], at: usize, words: &[u8], n: u64) -> usize
-    requires { ⌜ at + length (now words ++ decimal n) ≤ length (now buffer) ⌝ }
-    ensures { λ r. ⌜ Wrote (now (buffer .entry)) at (now (words .entry) ++ decimal n) (now (buffer .exit)) r ⌝ }
+    requires { at + length (words.now ++ decimal n) ≤ length buffer.old }
+    ensures { Wrote buffer.old at (words.now ++ decimal n) buffer.new result }
 {
     let at = put_words(buffer, at, words);
     put_number(buffer, at, n)
@@ -39,8 +36,8 @@ pub fn put_named(buffer: &mut [u8], at: usize, words: &[u8], n: u64) -> usize
 
 // Words, byte by byte.
 pub fn put_words(buffer: &mut [u8], at: usize, words: &[u8]) -> usize
-    requires { ⌜ at + length (now words) ≤ length (now buffer) ⌝ }
-    ensures { λ r. ⌜ Wrote (now (buffer .entry)) at (now (words .entry)) (now (buffer .exit)) r ⌝ }
+    requires { at + length words.now ≤ length buffer.old }
+    ensures { Wrote buffer.old at words.now buffer.new result }
 {
     let mut i = 0;
     let mut next = at;
@@ -54,8 +51,8 @@ pub fn put_words(buffer: &mut [u8], at: usize, words: &[u8]) -> usize
 
 // A number in decimal, from its last digit to its first.
 pub fn put_number(buffer: &mut [u8], at: usize, n: u64) -> usize
-    requires { ⌜ at + length (decimal n) ≤ length (now buffer) ⌝ }
-    ensures { λ r. ⌜ Wrote (now (buffer .entry)) at (decimal n) (now (buffer .exit)) r ⌝ }
+    requires { at + length (decimal n) ≤ length buffer.old }
+    ensures { Wrote buffer.old at (decimal n) buffer.new result }
 {
     let next = at + digit_count(n);
     let mut i = next;
@@ -72,8 +69,8 @@ pub fn put_number(buffer: &mut [u8], at: usize, n: u64) -> usize
 
 // Four hex digits.
 pub fn put_hex(buffer: &mut [u8], at: usize, n: u16) -> usize
-    requires { ⌜ at + length (hex n) ≤ length (now buffer) ⌝ }
-    ensures { λ r. ⌜ Wrote (now (buffer .entry)) at (hex n) (now (buffer .exit)) r ⌝ }
+    requires { at + length (hex n) ≤ length buffer.old }
+    ensures { Wrote buffer.old at (hex n) buffer.new result }
 {
     let wide = n as u64;
     let first = digit_of(wide / SIXTEEN_CUBED % SIXTEEN);
@@ -89,7 +86,7 @@ pub fn put_hex(buffer: &mut [u8], at: usize, n: u16) -> usize
 
 // How many decimal digits a number has.
 pub fn digit_count(n: u64) -> usize
-    ensures { λ r. ⌜ (r ≡ length (decimal n)) × (r ≤ wordDigits) ⌝ }
+    ensures { (result ≡ length (decimal n)) × (result ≤ word_digits) }
 {
     let mut count: usize = 1;
     let mut rest = n;
@@ -102,8 +99,8 @@ pub fn digit_count(n: u64) -> usize
 
 // The digit of a number below 16.
 fn digit_of(n: u64) -> u8
-    requires { ⌜ n < 16 ⌝ }
-    ensures { λ r. ⌜ r ≡ digit n ⌝ }
+    requires { n < 16 }
+    ensures { result ≡ digit n }
 {
     if n < TEN {
         return b'0' + n as u8;

@@ -1,149 +1,149 @@
 -- The outcomes of the refusals of a trip, and what an accepted one may take for granted. Assumes nothing.
-use Prim.Native.Nat.{ℕ, _≤_, _<_}
-use mathlib.Core.Path.{_≡_, refl}
-use mathlib.Core.Bool.{Bool, true, false, _||_}
+use Prim.Native.Nat.{ℕ, ◌≤◌, ◌<◌}
+use mathlib.Core.Path.{◌≡◌, refl}
+use mathlib.Core.Bool.{Bool, true, false, ◌||◌}
 use mathlib.Core.List.{List}
 use native.Mathlib.Omega.{arith}
-use borrow.Author.Tests.{ltb-false, eqb-false, eq-eqb, ne-eqb}
+use borrow.Author.Tests.{ltb-false, eqb-false, eq-eqb, ne_eqb}
 use lib.Dec.{ltb}
 use lib.ListN.{length}
-use Rattle·base.specs.declared.Plan.{Plan}
-use Rattle·base.specs.Limits.{tripLimit}
-use Rattle·base.specs.Plan.{planInRange}
-use Rattle·base.specs.Refusal.{accepted, lanesDiffer, tooManyValues, outOfRange, noSecond, planOutOfRange, laneTooShort, fault}
-use Rattle·base.specs.Second.{tooMany}
-use Rattle·base.specs.declared.Fault.{Fault}
-use Rattle·second.specs.Lanes.{Lanes, secondsIn, lanesAgree, secondInRange, firstBadSecond, noneHasValues}
-use Rattle·second.specs.Facts.{SameLengths}
-use Rattle·base.proofs.Tests.{or-left, or-right}
-use Rattle·second.proofs.Lanes.{agree, each-in-range}
-use Rattle·found.specs.Inside.{Findable}
-use Rattle·bins.specs.Inside.{BinLanes}
-use Rattle·climb.specs.Inside.{ClimbLanes}
-use Rattle·trip·specs.specs.declared.Rooms.{Rooms}
-use Rattle·trip·specs.specs.Refusals.{tooShort, tripFault, isAccepted}
-use Rattle·trip·specs.specs.Outcomes.{Places}
-use Rattle·trip·proofs.proofs.InRange.{altitude-in-range, kept-speed-in-range, kept-co2-in-range, counts-in-range}
-use Rattle·trip·proofs.proofs.Chain.{gives-plan, gives-differ, gives-many, gives-short, gives-bad, gives-none, gives-accepted}
+use Rattle.base.specs.declared.Plan.{Plan}
+use Rattle.base.specs.Limits.{trip_limit}
+use Rattle.base.specs.Plan.{plan_in_range}
+use Rattle.base.specs.Refusal.{accepted, lanes_differ, too_many_values, out_of_range, no_second, plan_out_of_range, lane_too_short, fault}
+use Rattle.base.specs.Second.{too_many}
+use Rattle.base.specs.declared.Fault.{Fault}
+use Rattle.second.specs.Lanes.{Lanes, seconds_in, lanes_agree, second_in_range, first_bad_second, none_has_values}
+use Rattle.second.specs.Facts.{SameLengths}
+use Rattle.base.proofs.Tests.{or_left, or_right}
+use Rattle.second.proofs.Lanes.{agree, each_in_range}
+use Rattle.found.specs.Inside.{Findable}
+use Rattle.bins.specs.Inside.{BinLanes}
+use Rattle.climb.specs.Inside.{ClimbLanes}
+use Rattle.trip.specs.declared.Rooms.{Rooms}
+use Rattle.trip.specs.Refusals.{too_short, trip_fault, is_accepted}
+use Rattle.trip.specs.Outcomes.{Places}
+use Rattle.trip.proofs.InRange.{altitude_is_in_range, kept_speed_in_range, kept_co2_in_range, counts_in_range}
+use Rattle.trip.proofs.Chain.{gives_plan, gives_differ, gives_many, gives_short, gives_bad, gives_none, gives_accepted}
 
-pub places : (rooms : Rooms) (n : ℕ) → tooShort rooms n ≡ false → Places rooms n
-unfolding tooShort
+pub places : (rooms : Rooms) (n : ℕ) → too_short rooms n ≡ false → Places rooms n
+unfolding too_short
 places rooms n h =
-    let s = ltb (rooms .speeds) n in
-    let c = ltb (rooms .co2) n in
-    let e = ltb (rooms .ends) n in
-    let k = ltb (rooms .ranks) n in
-    let three = or-left (s || c || e) k h in
-    let two = or-left (s || c) e three in
+    let s = ltb rooms.speeds n in
+    let c = ltb rooms.co2 n in
+    let e = ltb rooms.ends n in
+    let k = ltb rooms.ranks n in
+    let three = or_left (s || c || e) k h in
+    let two = or_left (s || c) e three in
     record {
-      for-speeds = ltb-false _ _ (or-left s c two);
-      for-co2 = ltb-false _ _ (or-right s c two);
-      for-ends = ltb-false _ _ (or-right (s || c) e three);
-      for-ranks = ltb-false _ _ (or-right (s || c || e) k h);
+      for_speeds = ltb-false _ _ (or_left s c two);
+      for_co2 = ltb-false _ _ (or_right s c two);
+      for_ends = ltb-false _ _ (or_right (s || c) e three);
+      for_ranks = ltb-false _ _ (or_right (s || c || e) k h);
     }
 
 module _ (plan : Plan) (trip : Lanes) (rooms : Rooms) where
   -- a trip that is accepted
   pub record Accepted : Type 0 where
-    pub plan-in-range : planInRange plan ≡ true
+    pub plan_is_in_range : plan_in_range plan ≡ true
     pub lanes : SameLengths trip
-    pub few : secondsIn trip ≤ tripLimit
-    pub room : Places rooms (secondsIn trip)
-    pub in-range : (i : ℕ) → i < secondsIn trip → secondInRange trip i ≡ true
-    pub some : noneHasValues (trip .states) ≡ false
+    pub few : seconds_in trip ≤ trip_limit
+    pub room : Places rooms (seconds_in trip)
+    pub in_range : (i : ℕ) → i < seconds_in trip → second_in_range trip i ≡ true
+    pub some : none_has_values trip.states ≡ false
 
   -- the seven outcomes, in the order of the refusals, each with its number and place
   pub data Outcome : Fault → Type 0 where
-    bad-plan : planInRange plan ≡ false → Outcome (fault planOutOfRange 0)
-    lanes-differ : planInRange plan ≡ true → lanesAgree trip ≡ false → Outcome (fault lanesDiffer 0)
-    too-many : planInRange plan ≡ true → lanesAgree trip ≡ true → tooMany (secondsIn trip) ≡ true → Outcome (fault tooManyValues 0)
-    too-short : planInRange plan ≡ true → lanesAgree trip ≡ true → tooMany (secondsIn trip) ≡ false → tooShort rooms (secondsIn trip) ≡ true → Outcome (fault laneTooShort 0)
-    bad-second : planInRange plan ≡ true → lanesAgree trip ≡ true → tooMany (secondsIn trip) ≡ false → tooShort rooms (secondsIn trip) ≡ false → ltb (firstBadSecond trip) (secondsIn trip) ≡ true → Outcome (fault outOfRange (firstBadSecond trip))
-    no-second : planInRange plan ≡ true → lanesAgree trip ≡ true → tooMany (secondsIn trip) ≡ false → tooShort rooms (secondsIn trip) ≡ false → ltb (firstBadSecond trip) (secondsIn trip) ≡ false → noneHasValues (trip .states) ≡ true → Outcome (fault noSecond 0)
-    fine : planInRange plan ≡ true → lanesAgree trip ≡ true → tooMany (secondsIn trip) ≡ false → tooShort rooms (secondsIn trip) ≡ false → ltb (firstBadSecond trip) (secondsIn trip) ≡ false → noneHasValues (trip .states) ≡ false → Outcome (fault accepted 0)
+    bad_plan : plan_in_range plan ≡ false → Outcome (fault plan_out_of_range 0)
+    if_lanes_differ : plan_in_range plan ≡ true → lanes_agree trip ≡ false → Outcome (fault lanes_differ 0)
+    if_too_many : plan_in_range plan ≡ true → lanes_agree trip ≡ true → too_many (seconds_in trip) ≡ true → Outcome (fault too_many_values 0)
+    if_too_short : plan_in_range plan ≡ true → lanes_agree trip ≡ true → too_many (seconds_in trip) ≡ false → too_short rooms (seconds_in trip) ≡ true → Outcome (fault lane_too_short 0)
+    bad_second : plan_in_range plan ≡ true → lanes_agree trip ≡ true → too_many (seconds_in trip) ≡ false → too_short rooms (seconds_in trip) ≡ false → ltb (first_bad_second trip) (seconds_in trip) ≡ true → Outcome (fault out_of_range (first_bad_second trip))
+    if_no_second : plan_in_range plan ≡ true → lanes_agree trip ≡ true → too_many (seconds_in trip) ≡ false → too_short rooms (seconds_in trip) ≡ false → ltb (first_bad_second trip) (seconds_in trip) ≡ false → none_has_values trip.states ≡ true → Outcome (fault no_second 0)
+    fine : plan_in_range plan ≡ true → lanes_agree trip ≡ true → too_many (seconds_in trip) ≡ false → too_short rooms (seconds_in trip) ≡ false → ltb (first_bad_second trip) (seconds_in trip) ≡ false → none_has_values trip.states ≡ false → Outcome (fault accepted 0)
 
-  pub outcome : Outcome (tripFault plan trip rooms)
+  pub outcome : Outcome (trip_fault plan trip rooms)
   outcome =
-      go (planInRange plan) refl (lanesAgree trip) refl (tooMany (secondsIn trip)) refl (tooShort rooms (secondsIn trip)) refl (ltb (firstBadSecond trip) (secondsIn trip)) refl (noneHasValues (trip .states)) refl
+      go (plan_in_range plan) refl (lanes_agree trip) refl (too_many (seconds_in trip)) refl (too_short rooms (seconds_in trip)) refl (ltb (first_bad_second trip) (seconds_in trip)) refl (none_has_values trip.states) refl
     where
       go :
-          (a : Bool) → planInRange plan ≡ a →
-          (b : Bool) → lanesAgree trip ≡ b →
-          (c : Bool) → tooMany (secondsIn trip) ≡ c →
-          (d : Bool) → tooShort rooms (secondsIn trip) ≡ d →
-          (e : Bool) → ltb (firstBadSecond trip) (secondsIn trip) ≡ e →
-          (f : Bool) → noneHasValues (trip .states) ≡ f →
-          Outcome (tripFault plan trip rooms)
-      go false p b q c r d s e t f u = rw (gives-plan plan trip rooms p) (bad-plan p)
-      go true p false q c r d s e t f u = rw (gives-differ plan trip rooms p q) (lanes-differ p q)
-      go true p true q true r d s e t f u = rw (gives-many plan trip rooms p q r) (too-many p q r)
-      go true p true q false r true s e t f u = rw (gives-short plan trip rooms p q r s) (too-short p q r s)
-      go true p true q false r false s true t f u = rw (gives-bad plan trip rooms p q r s t) (bad-second p q r s t)
-      go true p true q false r false s false t true u = rw (gives-none plan trip rooms p q r s t u) (no-second p q r s t u)
-      go true p true q false r false s false t false u = rw (gives-accepted plan trip rooms p q r s t u) (fine p q r s t u)
+          (a : Bool) → plan_in_range plan ≡ a →
+          (b : Bool) → lanes_agree trip ≡ b →
+          (c : Bool) → too_many (seconds_in trip) ≡ c →
+          (d : Bool) → too_short rooms (seconds_in trip) ≡ d →
+          (e : Bool) → ltb (first_bad_second trip) (seconds_in trip) ≡ e →
+          (f : Bool) → none_has_values trip.states ≡ f →
+          Outcome (trip_fault plan trip rooms)
+      go false p b q c r d s e t f u = rw (gives_plan plan trip rooms p) (bad_plan p)
+      go true p false q c r d s e t f u = rw (gives_differ plan trip rooms p q) (if_lanes_differ p q)
+      go true p true q true r d s e t f u = rw (gives_many plan trip rooms p q r) (if_too_many p q r)
+      go true p true q false r true s e t f u = rw (gives_short plan trip rooms p q r s) (if_too_short p q r s)
+      go true p true q false r false s true t f u = rw (gives_bad plan trip rooms p q r s t) (bad_second p q r s t)
+      go true p true q false r false s false t true u = rw (gives_none plan trip rooms p q r s t u) (if_no_second p q r s t u)
+      go true p true q false r false s false t false u = rw (gives_accepted plan trip rooms p q r s t u) (fine p q r s t u)
 
   -- a call with number 0 passed every test
-  pub passed : tripFault plan trip rooms .number ≡ accepted → Accepted
-  passed zero-number = go (tripFault plan trip rooms) outcome zero-number
+  pub passed : (trip_fault plan trip rooms).number ≡ accepted → Accepted
+  passed zero_number = go (trip_fault plan trip rooms) outcome zero_number
     where
-      go : (x : Fault) → Outcome x → x .number ≡ accepted → Accepted
-      go _ (bad-plan p) e = absurd (eqb-false planOutOfRange accepted refl e)
-      go _ (lanes-differ p q) e = absurd (eqb-false lanesDiffer accepted refl e)
-      go _ (too-many p q r) e = absurd (eqb-false tooManyValues accepted refl e)
-      go _ (too-short p q r s) e = absurd (eqb-false laneTooShort accepted refl e)
-      go _ (bad-second p q r s t) e = absurd (eqb-false outOfRange accepted refl e)
-      go _ (no-second p q r s t u) e = absurd (eqb-false noSecond accepted refl e)
+      go : (x : Fault) → Outcome x → x.number ≡ accepted → Accepted
+      go _ (bad_plan p) e = absurd (eqb-false plan_out_of_range accepted refl e)
+      go _ (if_lanes_differ p q) e = absurd (eqb-false lanes_differ accepted refl e)
+      go _ (if_too_many p q r) e = absurd (eqb-false too_many_values accepted refl e)
+      go _ (if_too_short p q r s) e = absurd (eqb-false lane_too_short accepted refl e)
+      go _ (bad_second p q r s t) e = absurd (eqb-false out_of_range accepted refl e)
+      go _ (if_no_second p q r s t u) e = absurd (eqb-false no_second accepted refl e)
       go _ (fine p q r s t u) e =
           record {
-            plan-in-range = p;
+            plan_is_in_range = p;
             lanes = agree trip q;
-            few = ltb-false tripLimit (secondsIn trip) r;
-            room = places rooms (secondsIn trip) s;
-            in-range = each-in-range trip (ltb-false (firstBadSecond trip) (secondsIn trip) t);
+            few = ltb-false trip_limit (seconds_in trip) r;
+            room = places rooms (seconds_in trip) s;
+            in_range = each_in_range trip (ltb-false (first_bad_second trip) (seconds_in trip) t);
             some = u;
           }
 
-  pub is-accepted : tripFault plan trip rooms .number ≡ accepted → isAccepted plan trip rooms ≡ true
-  unfolding isAccepted
-  is-accepted e = eq-eqb _ _ e
+  pub is_accepted_lem : (trip_fault plan trip rooms).number ≡ accepted → is_accepted plan trip rooms ≡ true
+  unfolding is_accepted
+  is_accepted_lem e = eq-eqb _ _ e
 
-  pub is-refused : (tripFault plan trip rooms .number ≡ accepted → ⊥) → isAccepted plan trip rooms ≡ false
-  unfolding isAccepted
-  is-refused e = ne-eqb _ _ e
+  pub is_refused : ((trip_fault plan trip rooms).number ≡ accepted → ⊥) → is_accepted plan trip rooms ≡ false
+  unfolding is_accepted
+  is_refused e = ne_eqb _ _ e
 
 -- what the parts of the evaluation ask, of an accepted trip
 module _ {plan : Plan} {trip : Lanes} {rooms : Rooms} (ok : Accepted plan trip rooms) where
-  pub findable : Findable plan (trip .states) (trip .speeds) (trip .co2) (rooms .speeds) (rooms .co2) (rooms .ends)
+  pub findable : Findable plan trip.states trip.speeds trip.co2 rooms.speeds rooms.co2 rooms.ends
   findable =
       record {
-        plan-in-range = ok .plan-in-range;
-        speeds-agree = ok .lanes .speeds;
-        co2-agree = ok .lanes .co2;
-        few = ok .few;
-        speeds-room = ok .room .for-speeds;
-        co2-room = ok .room .for-co2;
-        ends-room = ok .room .for-ends;
-        speeds-in-range = λ i h kept. kept-speed-in-range trip i (ok .in-range i h) kept;
-        co2-in-range = λ i h kept. kept-co2-in-range trip i (ok .in-range i h) kept;
+        plan_is_in_range = ok.plan_is_in_range;
+        speeds_agree = ok.lanes.speeds;
+        co2_agree = ok.lanes.co2;
+        few = ok.few;
+        speeds_room = ok.room.for_speeds;
+        co2_room = ok.room.for_co2;
+        ends_room = ok.room.for_ends;
+        speeds_in_range = λ i h kept. kept_speed_in_range trip i (ok.in_range i h) kept;
+        co2_in_range_lem = λ i h kept. kept_co2_in_range trip i (ok.in_range i h) kept;
       }
 
-  pub bin-lanes : (ranks : List ℕ) → rooms .ranks ≡ length ranks → BinLanes (trip .states) (trip .speeds) (trip .co2) (trip .nox) (trip .counts) (trip .marks) ranks
-  bin-lanes ranks same =
+  pub bin_lanes : (ranks : List ℕ) → rooms.ranks ≡ length ranks → BinLanes trip.states trip.speeds trip.co2 trip.nox trip.counts trip.marks ranks
+  bin_lanes ranks same =
       record {
-        speeds-agree = ok .lanes .speeds;
-        co2-agree = ok .lanes .co2;
-        nox-agree = ok .lanes .nox;
-        counts-agree = ok .lanes .counts;
-        marks-agree = ok .lanes .marks;
-        few = ok .few;
-        counts-in-range = counts-in-range trip (ok .lanes .marks) (ok .in-range);
-        room = omega (arith, ok .room .for-ranks);
+        speeds_agree = ok.lanes.speeds;
+        co2_agree = ok.lanes.co2;
+        nox_agree = ok.lanes.nox;
+        counts_agree = ok.lanes.counts;
+        marks_agree = ok.lanes.marks;
+        few = ok.few;
+        counts_in_range = counts_in_range trip ok.lanes.marks ok.in_range;
+        room = omega (arith, ok.room.for_ranks);
       }
 
-  pub climb-lanes : ClimbLanes (trip .states) (trip .speeds) (trip .altitudes)
-  climb-lanes =
+  pub climb_lanes : ClimbLanes trip.states trip.speeds trip.altitudes
+  climb_lanes =
       record {
-        recorded = record { altitudes-agree = ok .lanes .altitudes; in-range = λ i h has. altitude-in-range trip i (ok .in-range i h) has };
-        speeds-agree = ok .lanes .speeds;
-        few = ok .few;
+        recorded = record { altitudes_agree = ok.lanes.altitudes; in_range = λ i h has. altitude_is_in_range trip i (ok.in_range i h) has };
+        speeds_agree = ok.lanes.speeds;
+        few = ok.few;
       }

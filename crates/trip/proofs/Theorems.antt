@@ -1,59 +1,59 @@
 -- What the contract of the evaluation amounts to: accepted, refused, and the sums. Assumes nothing.
-use Prim.Native.Nat.{_+_}
-use mathlib.Core.Path.{_≡_, sym, _∙_, ap}
-use Rattle·base.specs.declared.Plan.{Plan}
-use Rattle·base.specs.declared.Fault.{Fault}
-use Rattle·second.specs.Lanes.{Lanes}
-use Rattle·tally.specs.declared.Tally.{Tally}
-use Rattle·tally.specs.Counts.{countsAfter}
-use Rattle·tally.proofs.Tallies.{bins-add-up, seconds-add-up}
-use Rattle·tally.specs.Inside.{added, binTalliesAfter}
-use Rattle·bins.specs.Bins.{binOf, binsOf}
-use Rattle·trip·specs.specs.declared.Rooms.{Rooms}
-use Rattle·base.specs.Refusal.{fault}
-use Rattle·trip·specs.specs.Refusals.{tripFault}
-use Rattle·trip·specs.specs.Trip.{figuresFrom, answerFrom, evaluated, answerOf, refused}
-use Rattle·trip·specs.specs.Sums.{SumsUp}
-use Rattle·trip·proofs.proofs.InRange.{parts}
-use Rattle·trip·proofs.proofs.Passed.{Accepted, passed, is-accepted, is-refused}
-use Rattle·trip·proofs.proofs.Answers.{refused-answer, accepted-answer}
-use Rattle·trip·proofs.proofs.Refused.{answer-fault}
+use Prim.Native.Nat.{◌+◌}
+use mathlib.Core.Path.{◌≡◌, sym, ◌∙◌, ap}
+use Rattle.base.specs.declared.Plan.{Plan}
+use Rattle.base.specs.declared.Fault.{Fault}
+use Rattle.second.specs.Lanes.{Lanes}
+use Rattle.tally.specs.declared.Tally.{Tally}
+use Rattle.tally.specs.Counts.{counts_after}
+use Rattle.tally.proofs.Tallies.{bins_add_up, seconds_add_up}
+use Rattle.tally.specs.Inside.{added, bin_tallies_after}
+use Rattle.bins.specs.Bins.{bin_of, bins_of}
+use Rattle.trip.specs.declared.Rooms.{Rooms}
+use Rattle.base.specs.Refusal.{fault}
+use Rattle.trip.specs.Refusals.{trip_fault}
+use Rattle.trip.specs.Trip.{figures_from, answer_from, evaluated, answer_of, refused}
+use Rattle.trip.specs.Sums.{SumsUp}
+use Rattle.trip.proofs.InRange.{parts}
+use Rattle.trip.proofs.Passed.{Accepted, passed, is_accepted_lem, is_refused}
+use Rattle.trip.proofs.Answers.{refused_answer_lem, accepted_answer}
+use Rattle.trip.proofs.Refused.{answer_fault}
 
 -- ---- accepted: number 0 says that every test passed, and the answer is that of the rules
 module _ (plan : Plan) (trip : Lanes) (rooms : Rooms) where
-  pub number-zero : answerOf plan trip rooms .refusal ≡ 0 → tripFault plan trip rooms .number ≡ 0
-  number-zero z = sym (ap (λ (f : Fault). f .number) (answer-fault plan trip rooms)) ∙ z
+  pub number_zero : (answer_of plan trip rooms).refusal ≡ 0 → (trip_fault plan trip rooms).number ≡ 0
+  number_zero z = sym (ap (λ (f : Fault). f.number) (answer_fault plan trip rooms)) ∙ z
 
-  pub accepted-passed : answerOf plan trip rooms .refusal ≡ 0 → Accepted plan trip rooms
-  accepted-passed z = passed plan trip rooms (number-zero z)
+  pub accepted_passed : (answer_of plan trip rooms).refusal ≡ 0 → Accepted plan trip rooms
+  accepted_passed z = passed plan trip rooms (number_zero z)
 
-  pub accepted-evaluated : answerOf plan trip rooms .refusal ≡ 0 → answerOf plan trip rooms ≡ evaluated plan trip
-  accepted-evaluated z = accepted-answer plan trip rooms (is-accepted plan trip rooms (number-zero z))
+  pub accepted_evaluated : (answer_of plan trip rooms).refusal ≡ 0 → answer_of plan trip rooms ≡ evaluated plan trip
+  accepted_evaluated z = accepted_answer plan trip rooms (is_accepted_lem plan trip rooms (number_zero z))
 
   -- a refusal has all other results zero
-  pub refused-zeros : (answerOf plan trip rooms .refusal ≡ 0 → ⊥) → answerOf plan trip rooms ≡ refused (fault (answerOf plan trip rooms .refusal) (answerOf plan trip rooms .place))
-  refused-zeros bad =
-      let same = answer-fault plan trip rooms in
-      refused-answer plan trip rooms (is-refused plan trip rooms (λ z. bad (ap (λ (f : Fault). f .number) same ∙ z))) ∙ ap refused (sym same)
+  pub refused_zeros : ((answer_of plan trip rooms).refusal ≡ 0 → ⊥) → answer_of plan trip rooms ≡ refused (fault (answer_of plan trip rooms).refusal (answer_of plan trip rooms).place)
+  refused_zeros bad =
+      let same = answer_fault plan trip rooms in
+      refused_answer_lem plan trip rooms (is_refused plan trip rooms (λ z. bad (ap (λ (f : Fault). f.number) same ∙ z))) ∙ ap refused (sym same)
 
 -- ---- sums
 module _ (plan : Plan) (trip : Lanes) where
-  pub sums-up : SumsUp plan trip
-  unfolding answerFrom binsOf binOf added binTalliesAfter
-  sums-up =
-      let all = bins-add-up (trip .states) (trip .speeds) (trip .co2) (trip .nox) (trip .counts) (trip .marks) in
+  pub sums_up : SumsUp plan trip
+  unfolding answer_from bins_of bin_of added bin_tallies_after
+  sums_up =
+      let all = bins_add_up trip.states trip.speeds trip.co2 trip.nox trip.counts trip.marks in
       record {
-        seconds = ap (λ (t : Tally). t .seconds) all;
-        distance = ap (λ (t : Tally). t .distance) all;
-        co2 = ap (λ (t : Tally). t .co2) all;
-        nox = ap (λ (t : Tally). t .nox) all;
-        available = ap (λ (t : Tally). t .available) all;
-        particles = λ yes. rw (ap (λ (t : Tally). t .available) all ∙ yes) at (ap (λ (t : Tally). t .particles) all);
+        seconds = ap (λ (t : Tally). t.seconds) all;
+        distance = ap (λ (t : Tally). t.distance) all;
+        co2 = ap (λ (t : Tally). t.co2) all;
+        nox = ap (λ (t : Tally). t.nox) all;
+        available = ap (λ (t : Tally). t.available) all;
+        particles = λ yes. rw (ap (λ (t : Tally). t.available) all ∙ yes) at (ap (λ (t : Tally). t.particles) all);
       }
 
   -- "their seconds to n less the missing"
-  pub seconds-less-missing : {rooms : Rooms} → Accepted plan trip rooms → evaluated plan trip .total .seconds + evaluated plan trip .missing ≡ evaluated plan trip .seconds
-  unfolding answerFrom figuresFrom binsOf countsAfter
-  seconds-less-missing ok =
-      seconds-add-up (trip .states) (trip .speeds) (trip .co2) (trip .nox) (trip .counts) (trip .marks)
-      (λ i h. parts trip i (ok .in-range i h) .known)
+  pub seconds_less_missing : {rooms : Rooms} → Accepted plan trip rooms → (evaluated plan trip).total.seconds + (evaluated plan trip).missing ≡ (evaluated plan trip).seconds
+  unfolding answer_from figures_from bins_of counts_after
+  seconds_less_missing ok =
+      seconds_add_up trip.states trip.speeds trip.co2 trip.nox trip.counts trip.marks
+      (λ i h. (parts trip i (ok.in_range i h)).known)

@@ -1,119 +1,119 @@
 -- What the verdict of an accepted trip says: each bit the rule of its reason, in the paper's words on the trip's own lanes, and zero that no
 -- rule holds. Assumes nothing.
-use Prim.Native.Nat.{ℕ, _*_, _≤_}
-use mathlib.Core.Path.{_≡_, refl, sym, _∙_}
-use mathlib.Core.Bool.{Bool, true, false, _||_, true≢false}
-use mathlib.Core.List.{[], _∷_}
-use mathlib.Core.Logic.{_↔_}
+use Prim.Native.Nat.{ℕ, ◌*◌, ◌≤◌}
+use mathlib.Core.Path.{◌≡◌, refl, sym, ◌∙◌}
+use mathlib.Core.Bool.{Bool, true, false, ◌||◌, true≢false}
+use mathlib.Core.List.{[], ◌∷◌}
+use mathlib.Core.Logic.{◌↔◌}
 use lib.Dec.{ltb}
-use Rattle·base.specs.declared.Plan.{Plan}
-use Rattle·base.specs.Roads.{urban, rural, motorway}
-use Rattle·second.specs.Lanes.{Lanes, secondsIn}
-use Rattle·tally.specs.Numbers.{fastestAbove}
-use Rattle·tally.specs.Sets.{isAbove}
-use Rattle·tally.specs.Counts.{countsAfter}
-use Rattle·tally.specs.Facts.{Gap, SomeIn}
-use Rattle·tally.proofs.Gaps.{gap-found, gap-counted}
-use Rattle·tally.proofs.SomeSecond.{some-in}
-use Rattle·climb.specs.Corrected.{highAfter}
-use Rattle·climb.specs.Climb.{climbTimes, steep, climbOf}
-use Rattle·climb.specs.Ends.{endsDifference, endsMost}
-use Rattle·windows.specs.Counts.{classCount}
-use Rattle·found.specs.Found.{foundIn}
-use Rattle·bins.specs.Bins.{binsOf}
-use Rattle·lively.specs.Lively.{tooLively, tooDull}
-use Rattle·percentile.specs.Percentile.{fewest}
-use Rattle·reasons.specs.Reasons.{Reason, tripLength, missingSeconds, shortPart, shareOfDistance, urbanMean, slowSeconds, fewFastSeconds, tooFast, endsApart, tooHigh, tooMuchClimb, fewProducts, livelyBin, dullBin, noWindows, outsideBand, isOutside, shareIsOutside, holds}
-use Rattle·reasons.specs.Numbers.{percent, tripLeast, tripMost, missingTimes, gapMost, distanceLeast, urbanShareLeast, urbanShareMost, otherShareLeast, otherShareMost, urbanMeanLeast, urbanMeanMost, slowShareLeast, slowShareMost, fastLeast, fasterShareMost}
-use Rattle·verdict.specs.Verdict.{bitSet, bitNumber, maskOf, hasAny, verdict}
-use Rattle·verdict.proofs.Laws.{bit-is, mask-tests, zero-exactly}
-use Rattle·trip·specs.specs.declared.Rooms.{Rooms}
-use Rattle·trip·specs.specs.Trip.{figuresFrom, answerFrom, figures, evaluated}
-use Rattle·trip·specs.specs.Rules.{Outside, ShareOutside, n, counts, N, S, M, T, Q, totalS, windowsOf, insideOf, OneOf, speedsKept, co2Kept, Holds}
-use Rattle·trip·proofs.proofs.Says.{Says, says-itself, says-below, says-not-below, says-at-most, says-equal, says-or, says-and, says-by}
-use Rattle·trip·proofs.proofs.Passed.{Accepted}
+use Rattle.base.specs.declared.Plan.{Plan}
+use Rattle.base.specs.Roads.{urban, rural, motorway}
+use Rattle.second.specs.Lanes.{Lanes, seconds_in}
+use Rattle.tally.specs.Numbers.{fastest_above}
+use Rattle.tally.specs.Sets.{is_above}
+use Rattle.tally.specs.Counts.{counts_after}
+use Rattle.tally.specs.Facts.{Gap, SomeIn}
+use Rattle.tally.proofs.Gaps.{gap_found, gap_counted}
+use Rattle.tally.proofs.SomeSecond.{some_in}
+use Rattle.climb.specs.Corrected.{high_after}
+use Rattle.climb.specs.Climb.{climb_times, steep, climb_of}
+use Rattle.climb.specs.Ends.{ends_difference, ends_most}
+use Rattle.windows.specs.Counts.{class_count}
+use Rattle.found.specs.Found.{found_in}
+use Rattle.bins.specs.Bins.{bins_of}
+use Rattle.lively.specs.Lively.{too_lively, too_dull}
+use Rattle.percentile.specs.Percentile.{fewest}
+use Rattle.reasons.specs.Reasons.{Reason, trip_length, missing_seconds, short_part, share_of_distance, urban_mean, slow_seconds, few_fast_seconds, too_fast, ends_apart, too_high, too_much_climb, few_products, lively_bin, dull_bin, no_windows, outside_band, is_outside, share_is_outside, holds}
+use Rattle.reasons.specs.Numbers.{percent, trip_least, trip_most, missing_times, gap_most, distance_least, urban_share_least, urban_share_most, other_share_least, other_share_most, urban_mean_least, urban_mean_most, slow_share_least, slow_share_most, fast_least, faster_share_most}
+use Rattle.verdict.specs.Verdict.{bit_set, bit_number, mask_of, has_any, verdict}
+use Rattle.verdict.proofs.Laws.{bit_is, mask_tests, zero_exactly}
+use Rattle.trip.specs.declared.Rooms.{Rooms}
+use Rattle.trip.specs.Trip.{figures_from, answer_from, figures, evaluated}
+use Rattle.trip.specs.Rules.{Outside, ShareOutside, n, counts, N, S, M, T, Q, total_s, windows_of, inside_of, OneOf, speeds_kept, co2_kept, Holds}
+use Rattle.trip.proofs.Says.{Says, says_itself, says-below, says-not-below, says_at_most, says_equal, says_or, says_and, says_by}
+use Rattle.trip.proofs.Passed.{Accepted}
 
 -- ---- the words of the rules
-says-outside : (low high number : ℕ) → Says (isOutside low high number) (Outside low high number)
-says-outside low high number = says-or (says-below number low) (says-below high number)
+says_outside : (low high number : ℕ) → Says (is_outside low high number) (Outside low high number)
+says_outside low high number = says_or (says-below number low) (says-below high number)
 
-says-share-outside : (low high whole number : ℕ) → Says (shareIsOutside low high whole number) (ShareOutside low high whole number)
-says-share-outside low high whole number = says-outside (low * whole) (high * whole) (percent * number)
+says_share_outside : (low high whole number : ℕ) → Says (share_is_outside low high whole number) (ShareOutside low high whole number)
+says_share_outside low high whole number = says_outside (low * whole) (high * whole) (percent * number)
 
-says-steep : (climb s : ℕ) → Says (steep climb s) (s ≤ climbTimes * climb)
+says-steep : (climb s : ℕ) → Says (steep climb s) (s ≤ climb_times * climb)
 unfolding steep
-says-steep climb s = says-at-most s (climbTimes * climb)
+says-steep climb s = says_at_most s (climb_times * climb)
 
 module _ (plan : Plan) (trip : Lanes) where
-  says-one : {test : ℕ → Bool} {P : ℕ → Type 0} → ((which : ℕ) → Says (test which) (P which)) → Says (test urban || test rural || test motorway) (OneOf plan trip P)
-  says-one each = says-or (says-or (each urban) (each rural)) (each motorway)
+  says_one : {test : ℕ → Bool} {P : ℕ → Type 0} → ((which : ℕ) → Says (test which) (P which)) → Says (test urban || test rural || test motorway) (OneOf plan trip P)
+  says_one each = says_or (says_or (each urban) (each rural)) (each motorway)
 
   -- ---- what the figures that come of a search say
   -- "over 30 missing in a row": a run of 31 or more, wherever it stands
-  long-gap : Says (ltb gapMost (figures plan trip .counts .gap)) (Gap (trip .states) (secondsIn trip) gapMost)
-  unfolding figuresFrom countsAfter
-  long-gap =
-      says-by (says-below gapMost _) (gap-found (trip .states) (secondsIn trip) gapMost, gap-counted (trip .states) (secondsIn trip) gapMost)
+  long_gap : Says (ltb gap_most (figures plan trip).counts.gap) (Gap trip.states (seconds_in trip) gap_most)
+  unfolding figures_from counts_after
+  long_gap =
+      says_by (says-below gap_most _) (gap_found trip.states (seconds_in trip) gap_most, gap_counted trip.states (seconds_in trip) gap_most)
 
   -- "a speed above 16,000"
-  fastest : Says (ltb 0 (figures plan trip .counts .fastest)) (SomeIn (isAbove (trip .states) (trip .speeds) fastestAbove) (secondsIn trip))
-  unfolding figuresFrom countsAfter
-  fastest = says-by (says-below 0 _) (some-in (isAbove (trip .states) (trip .speeds) fastestAbove) (secondsIn trip))
+  fastest : Says (ltb 0 (figures plan trip).counts.fastest) (SomeIn (is_above trip.states trip.speeds fastest_above) (seconds_in trip))
+  unfolding figures_from counts_after
+  fastest = says_by (says-below 0 _) (some_in (is_above trip.states trip.speeds fastest_above) (seconds_in trip))
 
   -- "a corrected altitude above 130,000"
-  too-high : Says (figures plan trip .high) (SomeIn (highAfter (trip .states) (trip .speeds) (trip .altitudes)) (secondsIn trip))
-  unfolding figuresFrom climbOf
-  too-high = says-by (says-below 0 _) (some-in (highAfter (trip .states) (trip .speeds) (trip .altitudes)) (secondsIn trip))
+  too_high_lem : Says (figures plan trip).high (SomeIn (high_after trip.states trip.speeds trip.altitudes) (seconds_in trip))
+  unfolding figures_from climb_of
+  too_high_lem = says_by (says-below 0 _) (some_in (high_after trip.states trip.speeds trip.altitudes) (seconds_in trip))
 
   -- the answer's classes are the counts of the windows of the kept seconds
-  pub classes-counted : let count = classCount plan (speedsKept plan trip) (co2Kept plan trip) in evaluated plan trip .classes ≡ count urban ∷ count rural ∷ count motorway ∷ []
-  unfolding answerFrom foundIn
-  classes-counted = refl
+  pub classes_counted : let count = class_count plan (speeds_kept plan trip) (co2_kept plan trip) in (evaluated plan trip).classes ≡ count urban ∷ count rural ∷ count motorway ∷ []
+  unfolding answer_from found_in
+  classes_counted = refl
 
   -- ---- the verdict of an accepted trip
-  verdict-is : evaluated plan trip .verdict ≡ verdict (figures plan trip)
-  unfolding answerFrom
-  verdict-is = refl
+  verdict_is : (evaluated plan trip).verdict ≡ verdict (figures plan trip)
+  unfolding answer_from
+  verdict_is = refl
 
   module _ {rooms : Rooms} (ok : Accepted plan trip rooms) where
     -- each reason's test of the figures says its rule on the lanes
-    rule-says : (reason : Reason) → Says (holds reason (figures plan trip)) (Holds plan trip reason)
-    unfolding holds figuresFrom binsOf climbOf foundIn
-    rule-says tripLength = says-outside tripLeast tripMost (n plan trip)
-    rule-says missingSeconds = says-or (says-at-most (n plan trip) (missingTimes * counts plan trip .missing)) long-gap
-    rule-says shortPart = says-one (λ bin. says-below (S plan trip bin) distanceLeast)
-    rule-says shareOfDistance =
-        says-or
-        (says-or
-        (says-share-outside urbanShareLeast urbanShareMost (totalS plan trip) (S plan trip urban))
-        (says-share-outside otherShareLeast otherShareMost (totalS plan trip) (S plan trip rural)))
-        (says-share-outside otherShareLeast otherShareMost (totalS plan trip) (S plan trip motorway))
-    rule-says urbanMean = says-outside (urbanMeanLeast * N plan trip urban) (urbanMeanMost * N plan trip urban) (S plan trip urban)
-    rule-says slowSeconds = says-share-outside slowShareLeast slowShareMost (N plan trip urban) (counts plan trip .slow)
-    rule-says fewFastSeconds = says-below (counts plan trip .fast) fastLeast
-    rule-says tooFast = says-or fastest (says-below (fasterShareMost * N plan trip motorway) (percent * counts plan trip .faster))
-    rule-says endsApart = says-below endsMost (endsDifference (trip .states) (trip .altitudes))
-    rule-says tooHigh = too-high
-    rule-says tooMuchClimb = says-steep _ (totalS plan trip)
-    rule-says fewProducts = says-one (λ bin. says-below (M plan trip bin) fewest)
-    rule-says livelyBin = says-one (λ bin. says-and (says-not-below (M plan trip bin) fewest) (says-itself (tooLively (S plan trip bin) (N plan trip bin) (Q plan trip bin))))
-    rule-says dullBin = says-one (λ bin. says-and (says-not-below (M plan trip bin) fewest) (says-itself (tooDull (S plan trip bin) (N plan trip bin) (T plan trip bin))))
-    rule-says noWindows = says-one (λ class. says-equal (windowsOf plan trip class) 0)
-    rule-says outsideBand = says-one (λ class. says-and (says-below 0 (windowsOf plan trip class)) (says-below (2 * insideOf plan trip class) (windowsOf plan trip class)))
+    rule_says : (reason : Reason) → Says (holds reason (figures plan trip)) (Holds plan trip reason)
+    unfolding holds figures_from bins_of climb_of found_in
+    rule_says trip_length = says_outside trip_least trip_most (n plan trip)
+    rule_says missing_seconds = says_or (says_at_most (n plan trip) (missing_times * (counts plan trip).missing)) long_gap
+    rule_says short_part = says_one (λ bin. says-below (S plan trip bin) distance_least)
+    rule_says share_of_distance =
+        says_or
+        (says_or
+        (says_share_outside urban_share_least urban_share_most (total_s plan trip) (S plan trip urban))
+        (says_share_outside other_share_least other_share_most (total_s plan trip) (S plan trip rural)))
+        (says_share_outside other_share_least other_share_most (total_s plan trip) (S plan trip motorway))
+    rule_says urban_mean = says_outside (urban_mean_least * N plan trip urban) (urban_mean_most * N plan trip urban) (S plan trip urban)
+    rule_says slow_seconds = says_share_outside slow_share_least slow_share_most (N plan trip urban) (counts plan trip).slow
+    rule_says few_fast_seconds = says-below (counts plan trip).fast fast_least
+    rule_says too_fast = says_or fastest (says-below (faster_share_most * N plan trip motorway) (percent * (counts plan trip).faster))
+    rule_says ends_apart = says-below ends_most (ends_difference trip.states trip.altitudes)
+    rule_says too_high = too_high_lem
+    rule_says too_much_climb = says-steep _ (total_s plan trip)
+    rule_says few_products = says_one (λ bin. says-below (M plan trip bin) fewest)
+    rule_says lively_bin = says_one (λ bin. says_and (says-not-below (M plan trip bin) fewest) (says_itself (too_lively (S plan trip bin) (N plan trip bin) (Q plan trip bin))))
+    rule_says dull_bin = says_one (λ bin. says_and (says-not-below (M plan trip bin) fewest) (says_itself (too_dull (S plan trip bin) (N plan trip bin) (T plan trip bin))))
+    rule_says no_windows = says_one (λ class. says_equal (windows_of plan trip class) 0)
+    rule_says outside_band = says_one (λ class. says_and (says-below 0 (windows_of plan trip class)) (says-below (2 * inside_of plan trip class) (windows_of plan trip class)))
 
     -- each bit of the verdict is set exactly when the rule holds of the lanes
-    pub bit-exactly : (reason : Reason) → (bitSet (bitNumber reason) (evaluated plan trip .verdict) ≡ true) ↔ Holds plan trip reason
-    bit-exactly reason = rw (verdict-is, bit-is reason (figures plan trip)) (rule-says reason .so, rule-says reason .back)
+    pub bit_exactly : (reason : Reason) → (bit_set (bit_number reason) (evaluated plan trip).verdict ≡ true) ↔ Holds plan trip reason
+    bit_exactly reason = rw (verdict_is, bit_is reason (figures plan trip)) ((rule_says reason).so, (rule_says reason).back)
 
     -- a reason is tested by its mask exactly when its rule holds of the lanes
-    pub mask-exactly : (reason : Reason) → (hasAny (evaluated plan trip .verdict) (maskOf reason) ≡ true) ↔ Holds plan trip reason
-    mask-exactly reason = rw (mask-tests reason (evaluated plan trip .verdict)) (bit-exactly reason)
+    pub mask_exactly : (reason : Reason) → (has_any (evaluated plan trip).verdict (mask_of reason) ≡ true) ↔ Holds plan trip reason
+    mask_exactly reason = rw (mask_tests reason (evaluated plan trip).verdict) (bit_exactly reason)
 
     -- the trip is valid exactly when none does
-    pub valid-on-lanes : (evaluated plan trip .verdict ≡ 0) ↔ ((reason : Reason) → Holds plan trip reason → ⊥)
-    valid-on-lanes =
-        (λ zero reason rule. true≢false (sym (rule-says reason .back rule) ∙ zero-exactly (figures plan trip) .0 (sym verdict-is ∙ zero) reason), λ none. verdict-is ∙ zero-exactly (figures plan trip) .1 (λ reason. fails (holds reason (figures plan trip)) (rule-says reason) (none reason)))
+    pub valid_on_lanes : ((evaluated plan trip).verdict ≡ 0) ↔ ((reason : Reason) → Holds plan trip reason → ⊥)
+    valid_on_lanes =
+        (λ zero reason rule. true≢false (sym ((rule_says reason).back rule) ∙ (zero_exactly (figures plan trip)).0 (sym verdict_is ∙ zero) reason), λ none. verdict_is ∙ (zero_exactly (figures plan trip)).1 (λ reason. fails (holds reason (figures plan trip)) (rule_says reason) (none reason)))
       where
         fails : (t : Bool) {P : Type 0} → Says t P → (P → ⊥) → t ≡ false
-        fails true says never = absurd (never (says .so refl))
+        fails true says never = absurd (never (says.so refl))
         fails false says never = refl

@@ -1,28 +1,25 @@
 -- What an accepted trip leaves in the lanes that are lent to it, place by place.
-use Prim.Native.Nat.{ℕ}
-use mathlib.Core.Path.{_≡_}
-use mathlib.Core.List.{List}
-use lib.ListN.{length, getD}
-use Rattle·base.specs.declared.Plan.{Plan}
-use Rattle·base.specs.InFront.{InFront}
-use Rattle·base.specs.Words.{pick}
-use Rattle·second.specs.Lanes.{Lanes}
-use Rattle·sweep.specs.Window.{hasWindow, windowEnd}
-use Rattle·dynamics.specs.Dynamics.{rankedProducts}
-use Rattle·trip·specs.specs.Lent as lent
-use Rattle·trip·specs.specs.Lent.{Lent}
+use Rattle.std.specs.Prelude.{ℕ, ◌≡◌, List, length, get_or}
+use Rattle.base.specs.declared.Plan.{Plan}
+use Rattle.base.specs.InFront.{InFront}
+use Rattle.base.specs.Words.{pick}
+use Rattle.second.specs.Lanes.{Lanes}
+use Rattle.sweep.specs.Window.{has_window, window_end}
+use Rattle.dynamics.specs.Dynamics.{ranked_products}
+use Rattle.trip.specs.Lent as lent
+use Rattle.trip.specs.Lent.{Lent}
 
 module _ (plan : Plan) (trip : Lanes) where
-  abbrev keptSpeeds : List ℕ
-  keptSpeeds = lent.keptSpeeds plan trip
+  abbrev kept_speed_values : List ℕ
+  kept_speed_values = lent.kept_speed_values plan trip
 
-  abbrev keptCo2 : List ℕ
-  keptCo2 = lent.keptCo2 plan trip
+  abbrev kept_co2_values : List ℕ
+  kept_co2_values = lent.kept_co2_values plan trip
 
   -- "An accepted call changes only the places named for it"
   pub record Leaves (before after : Lent) : Type 0 where
-    pub kept-speeds : InFront keptSpeeds (length keptSpeeds) (before .keptSpeeds) (after .keptSpeeds)
-    pub kept-co2 : InFront keptCo2 (length keptCo2) (before .keptCo2) (after .keptCo2)
-    pub window-ends : (f : ℕ) → getD (after .ends) f 0 ≡ pick (hasWindow (plan .reference) keptCo2 f) (windowEnd (plan .reference) keptCo2 f) (getD (before .ends) f 0)
-    pub ends-long : length (after .ends) ≡ length (before .ends)
-    pub ranked : InFront (rankedProducts (trip .states) (trip .speeds)) (length (rankedProducts (trip .states) (trip .speeds))) (before .ranks) (after .ranks)
+    pub kept_speeds_lem : InFront kept_speed_values (length kept_speed_values) before.kept_speed_values after.kept_speed_values
+    pub kept_co2_lem : InFront kept_co2_values (length kept_co2_values) before.kept_co2_values after.kept_co2_values
+    pub window_ends : (f : ℕ) → get_or after.ends f 0 ≡ pick (has_window plan.reference kept_co2_values f) (window_end plan.reference kept_co2_values f) (get_or before.ends f 0)
+    pub ends_long : length after.ends ≡ length before.ends
+    pub ranked : InFront (ranked_products trip.states trip.speeds) (length (ranked_products trip.states trip.speeds)) before.ranks after.ranks

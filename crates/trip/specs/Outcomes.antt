@@ -1,34 +1,31 @@
 -- When each number of a trip is given: "Trip: 5, 1, 2, 6, 3, 4".
-use Prim.Native.Nat.{ℕ, _≤_, _<_}
-use mathlib.Core.Path.{_≡_}
-use mathlib.Core.Bool.{true, false}
-use mathlib.Core.Logic.{_⊎_}
-use Rattle·base.specs.Refusal.{accepted, lanesDiffer, tooManyValues, outOfRange, noSecond, planOutOfRange, laneTooShort, fault}
-use Rattle·base.specs.declared.Plan.{Plan}
-use Rattle·base.specs.Limits.{tripLimit}
-use Rattle·base.specs.Plan.{planInRange}
-use Rattle·base.specs.declared.Fault.{Fault}
-use Rattle·second.specs.Lanes.{Lanes, secondsIn}
-use Rattle·second.specs.Facts.{SameLengths, FirstBadAt, AllInRange, NoSecond, SomeSecond}
-use Rattle·trip·specs.specs.declared.Rooms.{Rooms}
+use Rattle.std.specs.Prelude.{ℕ, ◌≤◌, ◌<◌, ◌≡◌, true, false, ◌⊎◌}
+use Rattle.base.specs.Refusal.{accepted, lanes_differ, too_many_values, out_of_range, no_second, plan_out_of_range, lane_too_short, fault}
+use Rattle.base.specs.declared.Plan.{Plan}
+use Rattle.base.specs.Limits.{trip_limit}
+use Rattle.base.specs.Plan.{plan_in_range}
+use Rattle.base.specs.declared.Fault.{Fault}
+use Rattle.second.specs.Lanes.{Lanes, seconds_in}
+use Rattle.second.specs.Facts.{SameLengths, FirstBadAt, AllInRange, NoSecond, SomeSecond}
+use Rattle.trip.specs.declared.Rooms.{Rooms}
 
 -- a place per second in each lent lane
 pub record Places (rooms : Rooms) (n : ℕ) : Type 0 where
-  pub for-speeds : n ≤ rooms .speeds
-  pub for-co2 : n ≤ rooms .co2
-  pub for-ends : n ≤ rooms .ends
-  pub for-ranks : n ≤ rooms .ranks
+  pub for_speeds : n ≤ rooms.speeds
+  pub for_co2 : n ≤ rooms.co2
+  pub for_ends : n ≤ rooms.ends
+  pub for_ranks : n ≤ rooms.ranks
 
 -- "a lane to be written is too short": a lent lane has no place for one of n seconds
 abbrev pub TooShort : Rooms → ℕ → Type 0
-TooShort rooms n = (((rooms .speeds < n) ⊎ (rooms .co2 < n)) ⊎ (rooms .ends < n)) ⊎ (rooms .ranks < n)
+TooShort rooms n = (((rooms.speeds < n) ⊎ (rooms.co2 < n)) ⊎ (rooms.ends < n)) ⊎ (rooms.ranks < n)
 
 -- what is given, in the order 5, 1, 2, 6, 3, 4: the number and the place, with the conditions
 pub data Given (plan : Plan) (trip : Lanes) (rooms : Rooms) : Fault → Type 0 where
-  plan-out-of-range : planInRange plan ≡ false → Given plan trip rooms (fault planOutOfRange 0)
-  lanes-differ : planInRange plan ≡ true → (SameLengths trip → ⊥) → Given plan trip rooms (fault lanesDiffer 0)
-  too-many : planInRange plan ≡ true → SameLengths trip → tripLimit < secondsIn trip → Given plan trip rooms (fault tooManyValues 0)
-  lane-too-short : planInRange plan ≡ true → SameLengths trip → secondsIn trip ≤ tripLimit → TooShort rooms (secondsIn trip) → Given plan trip rooms (fault laneTooShort 0)
-  out-of-range : planInRange plan ≡ true → SameLengths trip → secondsIn trip ≤ tripLimit → Places rooms (secondsIn trip) → (i : ℕ) → FirstBadAt trip i → Given plan trip rooms (fault outOfRange i)
-  no-second : planInRange plan ≡ true → SameLengths trip → secondsIn trip ≤ tripLimit → Places rooms (secondsIn trip) → AllInRange trip → NoSecond trip → Given plan trip rooms (fault noSecond 0)
-  none : planInRange plan ≡ true → SameLengths trip → secondsIn trip ≤ tripLimit → Places rooms (secondsIn trip) → AllInRange trip → SomeSecond trip → Given plan trip rooms (fault accepted 0)
+  if_plan_out_of_range : plan_in_range plan ≡ false → Given plan trip rooms (fault plan_out_of_range 0)
+  if_lanes_differ : plan_in_range plan ≡ true → (SameLengths trip → ⊥) → Given plan trip rooms (fault lanes_differ 0)
+  if_too_many : plan_in_range plan ≡ true → SameLengths trip → trip_limit < seconds_in trip → Given plan trip rooms (fault too_many_values 0)
+  if_lane_too_short : plan_in_range plan ≡ true → SameLengths trip → seconds_in trip ≤ trip_limit → TooShort rooms (seconds_in trip) → Given plan trip rooms (fault lane_too_short 0)
+  if_out_of_range : plan_in_range plan ≡ true → SameLengths trip → seconds_in trip ≤ trip_limit → Places rooms (seconds_in trip) → (i : ℕ) → FirstBadAt trip i → Given plan trip rooms (fault out_of_range i)
+  if_no_second : plan_in_range plan ≡ true → SameLengths trip → seconds_in trip ≤ trip_limit → Places rooms (seconds_in trip) → AllInRange trip → NoSecond trip → Given plan trip rooms (fault no_second 0)
+  none : plan_in_range plan ≡ true → SameLengths trip → seconds_in trip ≤ trip_limit → Places rooms (seconds_in trip) → AllInRange trip → SomeSecond trip → Given plan trip rooms (fault accepted 0)

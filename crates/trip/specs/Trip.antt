@@ -1,96 +1,93 @@
 -- A whole trip: its figures and its answer.
-use Prim.Native.Nat.{ℕ}
-use mathlib.Core.List.{List}
-use lib.IntN.{ℤ}
-use lib.ListN.{length}
-use Rattle·base.specs.declared.Plan.{Plan}
-use Rattle·base.specs.Refusal.{accepted}
-use Rattle·base.specs.Roads.{ofEach}
-use Rattle·base.specs.Words.{pick}
-use Rattle·base.specs.declared.Fault.{Fault}
-use Rattle·second.specs.Lanes.{Lanes}
-use Rattle·windows.specs.Counts.{noCount}
-use Rattle·tally.specs.Tally.{noTally}
-use Rattle·tally.specs.Counts.{countsOf}
-use Rattle·climb.specs.Climb.{climbOf}
-use Rattle·climb.specs.Ends.{endsApart}
-use Rattle·reasons.specs.declared.Figures.{Figures}
-use Rattle·verdict.specs.Verdict as verdicts
-use Rattle·found.specs.declared.Found.{Found}
-use Rattle·found.specs.Found.{foundOf}
-use Rattle·bins.specs.declared.Bins.{Bins}
-use Rattle·bins.specs.Bins.{noBin, binsOf}
-use Rattle·trip·specs.specs.declared.Rooms.{Rooms}
-use Rattle·trip·specs.specs.declared.Evaluated.{Evaluated}
-use Rattle·trip·specs.specs.Refusals.{tripFault, isAccepted}
+use Rattle.std.specs.Prelude.{ℕ, List, ℤ, length}
+use Rattle.base.specs.declared.Plan.{Plan}
+use Rattle.base.specs.Refusal.{accepted}
+use Rattle.base.specs.Roads.{of_each}
+use Rattle.base.specs.Words.{pick}
+use Rattle.base.specs.declared.Fault.{Fault}
+use Rattle.second.specs.Lanes.{Lanes}
+use Rattle.windows.specs.Counts.{no_count}
+use Rattle.tally.specs.Tally.{no_tally}
+use Rattle.tally.specs.Counts.{counts_of}
+use Rattle.climb.specs.Climb.{climb_of}
+use Rattle.climb.specs.Ends.{ends_apart}
+use Rattle.reasons.specs.declared.Figures.{Figures}
+use Rattle.verdict.specs.Verdict as verdicts
+use Rattle.found.specs.declared.Found.{Found}
+use Rattle.found.specs.Found.{found_of}
+use Rattle.bins.specs.declared.Bins.{Bins}
+use Rattle.bins.specs.Bins.{no_bin, bins_of}
+use Rattle.trip.specs.declared.Rooms.{Rooms}
+use Rattle.trip.specs.declared.Evaluated.{Evaluated}
+use Rattle.trip.specs.Refusals.{trip_fault, is_accepted}
 
 module _ (states speeds : List ℕ) (altitudes : List ℤ) (found : Found) (bins : Bins) where
   -- what the sixteen reasons are judged from, where these are the trip's windows and bins
-  unfoldable pub figuresFrom : Figures
-  figuresFrom =
+  unfoldable pub figures_from : Figures
+  figures_from =
       record {
         seconds = length states;
-        counts = countsOf states speeds;
-        distance = bins .total .distance;
-        apart = endsApart states altitudes;
-        high = climbOf states speeds altitudes .high;
-        climb = climbOf states speeds altitudes .climb;
-        bins = bins .each;
-        classes = found .classes;
+        counts = counts_of states speeds;
+        distance = bins.total.distance;
+        apart = ends_apart states altitudes;
+        high = (climb_of states speeds altitudes).high;
+        climb = (climb_of states speeds altitudes).climb;
+        bins = bins.each;
+        classes = found.classes;
       }
 
   -- "The trip answer also has the counts of the printed lines 1 and 2 and, for each of three bins, .."
-  unfoldable pub answerFrom : Evaluated
-  answerFrom =
+  unfoldable pub answer_from : Evaluated
+  answer_from =
       record {
         refusal = accepted;
         place = 0;
-        seconds = figuresFrom .seconds;
-        missing = figuresFrom .counts .missing;
-        kept = found .kept;
-        windows = found .windows;
-        moves = found .moves;
-        bins = bins .each;
-        total = bins .total;
-        climb = figuresFrom .climb;
-        classes = found .classes;
-        verdict = verdicts.verdict figuresFrom;
+        seconds = figures_from.seconds;
+        missing = figures_from.counts.missing;
+        kept = found.kept;
+        windows = found.windows;
+        moves = found.moves;
+        bins = bins.each;
+        total = bins.total;
+        climb = figures_from.climb;
+        classes = found.classes;
+        verdict = verdicts.verdict figures_from;
       }
 
 module _ (plan : Plan) (trip : Lanes) where
   -- the windows and the bins of a trip
   abbrev pub found : Found
-  found = foundOf plan (trip .states) (trip .speeds) (trip .co2)
+  found = found_of plan trip.states trip.speeds trip.co2
 
   abbrev pub bins : Bins
-  bins = binsOf (trip .states) (trip .speeds) (trip .co2) (trip .nox) (trip .counts) (trip .marks)
+  bins = bins_of trip.states trip.speeds trip.co2 trip.nox trip.counts trip.marks
 
   -- the figures that the verdict is judged from
   abbrev pub figures : Figures
-  figures = figuresFrom (trip .states) (trip .speeds) (trip .altitudes) found bins
+  figures = figures_from trip.states trip.speeds trip.altitudes found bins
 
   -- the answer for a trip that is not refused
   abbrev pub evaluated : Evaluated
-  evaluated = answerFrom (trip .states) (trip .speeds) (trip .altitudes) found bins
+  evaluated = answer_from trip.states trip.speeds trip.altitudes found bins
 
 -- "A refusal returns its number and a place .., with all other results zero"
 unfoldable pub refused : Fault → Evaluated
 refused fault =
     record {
-      refusal = fault .number;
-      place = fault .place;
+      refusal = fault.number;
+      place = fault.place;
       seconds = 0;
       missing = 0;
       kept = 0;
       windows = 0;
       moves = 0;
-      bins = ofEach (λ bin. noBin);
-      total = noTally;
+      bins = of_each (λ bin. no_bin);
+      total = no_tally;
       climb = 0;
-      classes = ofEach (λ class. noCount);
+      classes = of_each (λ class. no_count);
       verdict = 0;
     }
 
 -- the answer of the call
-unfoldable pub answerOf : Plan → Lanes → Rooms → Evaluated
-answerOf plan trip rooms = pick (isAccepted plan trip rooms) (evaluated plan trip) (refused (tripFault plan trip rooms))
+unfoldable pub answer_of : Plan → Lanes → Rooms → Evaluated
+answer_of plan trip rooms = pick (is_accepted plan trip rooms) (evaluated plan trip) (refused (trip_fault plan trip rooms))

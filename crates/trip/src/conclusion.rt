@@ -1,12 +1,13 @@
 // The answer of a trip that is not refused: the figures put together, and the verdict from them.
 
+ghost use Rattle.std.specs.Prelude.{◌≡◌};
+ghost use Rattle.climb.specs.Inside.{ClimbLanes};
+ghost use Rattle.trip.specs.Trip.{figures_from, answer_from};
+
 use crate::Evaluated;
 use bins::Bins;
 use found::Found;
 use reasons::Figures;
-ghost use mathlib.Core.Path.{_≡_};
-ghost use Rattle·climb.specs.Inside.{ClimbLanes};
-ghost use Rattle·trip·specs.specs.Trip.{figuresFrom, answerFrom};
 
 // The answer from the lanes, the windows and the bins.
 pub fn conclude(
@@ -16,8 +17,8 @@ pub fn conclude(
     found: Found,
     bins: Bins,
 ) -> Evaluated
-    requires { ⌜ ClimbLanes (now states) (now speeds) (now altitudes) ⌝ }
-    ensures { λ r. ⌜ r ≡ answerFrom (now (states .entry)) (now (speeds .entry)) (now (altitudes .entry)) found bins ⌝ }
+    requires { ClimbLanes states.now speeds.now altitudes.now }
+    ensures { result ≡ answer_from states.now speeds.now altitudes.now found bins }
 {
     let figures = figures_from(states, speeds, altitudes, found, bins);
     let counts = figures.counts;
@@ -48,8 +49,8 @@ fn figures_from(
     found: Found,
     bins: Bins,
 ) -> Figures
-    requires { ⌜ ClimbLanes (now states) (now speeds) (now altitudes) ⌝ }
-    ensures { λ r. ⌜ r ≡ figuresFrom (now (states .entry)) (now (speeds .entry)) (now (altitudes .entry)) found bins ⌝ }
+    requires { ClimbLanes states.now speeds.now altitudes.now }
+    ensures { result ≡ figures_from states.now speeds.now altitudes.now found bins }
 {
     let counts = tally::count_seconds(states, speeds);
     let climbed = climb::climb(states, speeds, altitudes);

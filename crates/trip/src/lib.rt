@@ -5,18 +5,20 @@
 mod conclusion;
 mod refusals;
 
+ghost use Rattle.std.specs.Prelude.{◌≡◌};
+ghost use Rattle.second.specs.Lanes.{lanes_of};
+ghost use Rattle.trip.specs.Trip.{answer_of};
+ghost use Rattle.trip.specs.Lent.{lent_of, rooms_in, lent_left};
+
 use base::Plan;
 use bins::Bin;
 use tally::Tally;
 use windows::ClassCount;
-ghost use mathlib.Core.Path.{_≡_};
-ghost use Rattle·second.specs.Lanes.{lanesOf};
-ghost use Rattle·trip·specs.specs.Trip.{answerOf};
-ghost use Rattle·trip·specs.specs.Lent.{lentOf, roomsIn, lentLeft};
 
 // The answer. In a refusal everything but its number and place is zero. Bins and classes stand in
 // the order urban, rural, motorway.
 #[repr(C)]
+#[derive(Drop)]
 pub struct Evaluated {
     pub refusal: u8, // 0, or 5, 1, 2, 6, 3, 4
     pub place: usize, // for refusal 3 the index of the first bad second, else 0
@@ -33,6 +35,7 @@ pub struct Evaluated {
 }
 
 // How many places the lent lanes have.
+#[derive(Drop)]
 pub struct Rooms {
     pub speeds: usize, // for kept speeds
     pub co2: usize, // for kept CO2 masses
@@ -55,12 +58,11 @@ pub fn evaluate(
     ends: &mut [u16],
     ranks: &mut [u32],
 ) -> Evaluated
-    ensures { λ r.
-        let trip = lanesOf (now (states .entry)) (now (speeds .entry)) (now (altitudes .entry)) (now (co2 .entry)) (now (nox .entry)) (now (counts .entry)) (now (marks .entry)) in
-        let lent = lentOf (now («kept_speeds» .entry)) (now («kept_co2» .entry)) (now (ends .entry)) (now (ranks .entry)) in
-        let left = lentOf (now («kept_speeds» .exit)) (now («kept_co2» .exit)) (now (ends .exit)) (now (ranks .exit)) in
-        ⌜ (r ≡ answerOf plan trip (roomsIn lent))
-        × (left ≡ lentLeft plan trip lent) ⌝ }
+    ensures { let trip = lanes_of states.now speeds.now altitudes.now co2.now nox.now counts.now marks.now in
+        let lent = lent_of kept_speeds.old kept_co2.old ends.old ranks.old in
+        let left = lent_of kept_speeds.new kept_co2.new ends.new ranks.new in
+        (result ≡ answer_of plan trip (rooms_in lent))
+        × (left ≡ lent_left plan trip lent) }
 {
     let rooms = Rooms {
         speeds: kept_speeds.len(),
@@ -69,15 +71,7 @@ pub fn evaluate(
         ranks: ranks.len(),
     };
     let fault = refusals::fault_of(
-        plan,
-        states,
-        speeds,
-        altitudes,
-        co2,
-        nox,
-        counts,
-        marks,
-        rooms,
+        plan, states, speeds, altitudes, co2, nox, counts, marks, rooms,
     );
     let number = fault.number;
     if number != base::refusal::ACCEPTED {

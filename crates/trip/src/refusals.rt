@@ -1,16 +1,14 @@
 // What is refused of a trip, and the answer of a refusal.
 
-use crate::Bin;
-use crate::Evaluated;
-use crate::Rooms;
-use base::Fault;
-use base::Plan;
+ghost use Rattle.std.specs.Prelude.{◌≡◌};
+ghost use Rattle.second.specs.Lanes.{lanes_of};
+ghost use Rattle.trip.specs.Refusals.{too_short, trip_fault};
+ghost use Rattle.trip.specs.Trip.{refused};
+
+use crate::{Bin, Evaluated, Rooms};
+use base::{Fault, Plan};
 use tally::Tally;
 use windows::ClassCount;
-ghost use mathlib.Core.Path.{_≡_};
-ghost use Rattle·second.specs.Lanes.{lanesOf};
-ghost use Rattle·trip·specs.specs.Refusals.{tooShort, tripFault};
-ghost use Rattle·trip·specs.specs.Trip.{refused};
 
 // What is refused of a trip: 5, 1, 2, 6, 3, then 4.
 pub fn fault_of(
@@ -24,9 +22,8 @@ pub fn fault_of(
     marks: &[u8],
     rooms: Rooms,
 ) -> Fault
-    ensures { λ r.
-        let trip = lanesOf (now (states .entry)) (now (speeds .entry)) (now (altitudes .entry)) (now (co2 .entry)) (now (nox .entry)) (now (counts .entry)) (now (marks .entry)) in
-        ⌜ r ≡ tripFault plan trip rooms ⌝ }
+    ensures { let trip = lanes_of states.now speeds.now altitudes.now co2.now nox.now counts.now marks.now in
+        result ≡ trip_fault plan trip rooms }
 {
     if !base::plan_in_range(plan) {
         return base::fault_at(base::refusal::PLAN_OUT_OF_RANGE, 0);
@@ -52,14 +49,14 @@ pub fn fault_of(
 
 // Whether a lent lane has no place for one of n seconds.
 fn too_short(rooms: Rooms, n: usize) -> bool
-    ensures { λ r. ⌜ r ≡ tooShort rooms n ⌝ }
+    ensures { result ≡ too_short rooms n }
 {
     (rooms.speeds < n) | (rooms.co2 < n) | (rooms.ends < n) | (rooms.ranks < n)
 }
 
 // The answer of a refusal: its number and place, and zeros.
 pub fn refused_for(fault: Fault) -> Evaluated
-    ensures { λ r. ⌜ r ≡ refused fault ⌝ }
+    ensures { result ≡ refused fault }
 {
     Evaluated {
         refusal: fault.number,

@@ -1,8 +1,7 @@
 -- One reason marked, where it holds.
-use Prim.Native.Nat.{ℕ}
-use mathlib.Core.Bool.{Bool}
-use lib.Bits.{bitOr}
-use Rattle·base.specs.Words.{pick}
+use Rattle.std.specs.Prelude.{ℕ, Bool}
+use Rattle.std.specs.Int.Bits.{bit_or}
+use Rattle.base.specs.Words.{pick}
 
 unfoldable pub marked : ℕ → ℕ → Bool → ℕ
-marked reasons mask on = pick on (bitOr reasons mask) reasons
+marked reasons mask on = pick on (bit_or reasons mask) reasons

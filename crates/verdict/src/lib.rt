@@ -1,11 +1,11 @@
 // The verdict: a sixteen-bit number, a bit for each reason why a trip is not valid.
 
+ghost use Rattle.std.specs.Prelude.{◌≡◌, ◌≤◌};
+ghost use Rattle.climb.specs.Inside.{climb_most};
+ghost use Rattle.verdict.specs.Verdict.{has_any, verdict};
+ghost use Rattle.verdict.specs.Inside.{marked};
+
 use reasons::Figures;
-ghost use mathlib.Core.Path.{_≡_};
-ghost use Prim.Native.Nat.{_≤_};
-ghost use Rattle·climb.specs.Inside.{climbMost};
-ghost use Rattle·verdict·specs.specs.Verdict.{hasAny, verdict};
-ghost use Rattle·verdict·specs.specs.Inside.{marked};
 
 // The masks of the reasons: each is the bit of one reason in the verdict.
 pub const TRIP_LENGTH: u16 = 0x0001;
@@ -42,8 +42,8 @@ pub const OUTSIDE_BAND: u16 = 0x8000;
 
 // The verdict: zero says that the trip is valid.
 pub fn judge(figures: Figures) -> u16
-    requires { ⌜ figures .climb ≤ climbMost ⌝ }
-    ensures { λ r. ⌜ r ≡ verdict figures ⌝ }
+    requires { figures.climb ≤ climb_most }
+    ensures { result ≡ verdict figures }
 {
     let mut reasons: u16 = 0;
     reasons = mark(reasons, TRIP_LENGTH, reasons::trip_length(figures));
@@ -75,14 +75,14 @@ pub fn judge(figures: Figures) -> u16
 
 // Whether a verdict has any of the reasons of a mask.
 pub fn has_reason(verdict: u16, mask: u16) -> bool
-    ensures { λ r. ⌜ r ≡ hasAny verdict mask ⌝ }
+    ensures { result ≡ has_any verdict mask }
 {
     (verdict & mask) != 0
 }
 
 // The reasons with one more, where it holds.
 fn mark(reasons: u16, mask: u16, on: bool) -> u16
-    ensures { λ r. ⌜ r ≡ marked reasons mask on ⌝ }
+    ensures { result ≡ marked reasons mask on }
 {
     if on {
         return reasons | mask;

@@ -1,10 +1,9 @@
 // Unsigned numbers of two words, for the exact comparisons, whose products and sums pass 64 bits.
-ghost use mathlib.Core.Path.{_≡_};
-ghost use Prim.Native.Nat.{_+_, _*_, _^_, _<_};
-ghost use lib.Dec.{ltb};
-ghost use Rattle·wide·specs.specs.Inside.{value};
+ghost use Rattle.std.specs.Prelude.{◌≡◌, ◌+◌, ◌*◌, ◌^◌, ◌<◌, nat_lt};
+ghost use Rattle.wide.specs.Inside.{value};
 
 // The number hi * 2^64 + lo.
+#[derive(Drop)]
 pub struct Wide {
     pub hi: u64,
     pub lo: u64,
@@ -15,7 +14,7 @@ const HALF: u64 = 0x1_0000_0000;
 
 // The whole product of two words: the four products of their halves, each added at its place.
 pub fn product(a: u64, b: u64) -> Wide
-    ensures { λ r. ⌜ value r ≡ a * b ⌝ }
+    ensures { value result ≡ a * b }
 {
     let a_top = a / HALF;
     let a_low = a % HALF;
@@ -31,7 +30,7 @@ pub fn product(a: u64, b: u64) -> Wide
 
 // A word moved up by half a word, to the place of a top half times a low half.
 fn raised(x: u64) -> Wide
-    ensures { λ r. ⌜ value r ≡ x * 2 ^ 32 ⌝ }
+    ensures { value result ≡ x * 2 ^ 32 }
 {
     let hi = x / HALF;
     let lo = x % HALF * HALF;
@@ -41,8 +40,8 @@ fn raised(x: u64) -> Wide
 // The sum, where the high words leave room for a carry. The low half may turn over: it is then
 // below either low word.
 pub fn sum(a: Wide, b: Wide) -> Wide
-    requires { ⌜ a .hi + b .hi + 1 < 2 ^ 64 ⌝ }
-    ensures { λ r. ⌜ value r ≡ value a + value b ⌝ }
+    requires { a.hi + b.hi + 1 < 2 ^ 64 }
+    ensures { value result ≡ value a + value b }
 {
     let a_hi = a.hi;
     let a_lo = a.lo;
@@ -59,7 +58,7 @@ pub fn sum(a: Wide, b: Wide) -> Wide
 
 // Whether a is below b: the high words decide, or the low words where the high ones are equal.
 pub fn less(a: Wide, b: Wide) -> bool
-    ensures { λ r. ⌜ r ≡ ltb (value a) (value b) ⌝ }
+    ensures { result ≡ nat_lt (value a) (value b) }
 {
     let a_hi = a.hi;
     let a_lo = a.lo;

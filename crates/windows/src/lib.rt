@@ -2,16 +2,14 @@
 // whether the window is inside its band. specs/Figure.antt judges one window from the sums over its
 // seconds, specs/Counts.antt counts the windows of a trip.
 
+ghost use Rattle.std.specs.Prelude.{◌≡◌, true, ◌*◌, ◌^◌, ◌<◌, ◌≤◌, length};
+ghost use Rattle.base.specs.Limits.{tolerance_most};
+ghost use Rattle.base.specs.Plan.{plan_in_range};
+ghost use Rattle.base.specs.Words.{pick, sum};
+ghost use Rattle.windows.specs.Figure.{mean_speed, motorway_below, class_of, line_at, curve, mass_per_km, in_band, upper_of, figure_of};
+ghost use Rattle.windows.specs.Inside.{window_most, LineGiven, held_as, CurveRoom, Judgeable, KeptSpeeds, WindowSeconds, SweptLanes, with_window, counts_of};
+
 use base::Plan;
-ghost use mathlib.Core.Path.{_≡_};
-ghost use mathlib.Core.Bool.{true};
-ghost use Prim.Native.Nat.{_*_, _^_, _<_, _≤_};
-ghost use lib.ListN.{length};
-ghost use Rattle·base.specs.Limits.{toleranceMost};
-ghost use Rattle·base.specs.Plan.{planInRange};
-ghost use Rattle·base.specs.Words.{pick, sum};
-ghost use Rattle·windows·specs.specs.Figure.{meanSpeed, motorwayBelow, classOf, lineAt, curve, massPerKm, inBand, upperOf, figureOf};
-ghost use Rattle·windows·specs.specs.Inside.{windowMost, LineGiven, heldAs, CurveRoom, Judgeable, KeptSpeeds, WindowSeconds, SweptLanes, withWindow, countsOf};
 
 // The most seconds of a window that can be judged, whatever the limit of a trip.
 pub const WINDOW_MOST: usize = 32_768;
@@ -36,6 +34,7 @@ const SPEED_OF_E2: u64 = 56_664;
 const FROM_E2_TO_E3: u64 = 35_333;
 
 // A window judged.
+#[derive(Drop)]
 pub struct Figure {
     pub class: usize, // urban, rural, motorway or unclassed
     pub inside: bool, // whether it is inside its band; false where it has no class
@@ -43,6 +42,7 @@ pub struct Figure {
 
 // How many windows a class has.
 #[repr(C)]
+#[derive(Drop)]
 pub struct ClassCount {
     pub windows: u32,
     pub inside: u32,
@@ -57,8 +57,8 @@ pub fn count_windows(
     ends: &[u16],
     windows: usize,
 ) -> [ClassCount; 4]
-    requires { ⌜ SweptLanes plan (now speeds) (now co2) (now ends) windows ⌝ }
-    ensures { λ r. ⌜ r ≡ countsOf plan (now (speeds .entry)) (now (co2 .entry)) ⌝ }
+    requires { SweptLanes plan speeds.now co2.now ends.now windows }
+    ensures { result ≡ counts_of plan speeds.now co2.now }
 {
     let mut counts = [ClassCount {
         windows: 0,
@@ -78,16 +78,16 @@ pub fn count_windows(
 
 // Judges the window that has these seconds.
 fn judge_window(plan: Plan, speeds: &[u16], co2: &[u32]) -> Figure
-    requires { ⌜ WindowSeconds plan (now speeds) (now co2) ⌝ }
-    ensures { λ r. ⌜ r ≡ figureOf plan (sum (now (speeds .entry))) (sum (now (co2 .entry))) (length (now (co2 .entry))) ⌝ }
+    requires { WindowSeconds plan speeds.now co2.now }
+    ensures { result ≡ figure_of plan (sum speeds.now) (sum co2.now) (length co2.now) }
 {
     judge(plan, total_speed(speeds), sweep::total(co2), co2.len())
 }
 
 // Judges a window from the sum s of its speeds, its CO2 m in mg and its length n.
 pub fn judge(plan: Plan, s: u32, m: u32, n: usize) -> Figure
-    requires { ⌜ Judgeable plan s m n ⌝ }
-    ensures { λ r. ⌜ r ≡ figureOf plan s m n ⌝ }
+    requires { Judgeable plan s m n }
+    ensures { result ≡ figure_of plan s m n }
 {
     let class = class_of(s, n);
     if class == UNCLASSED {
@@ -108,8 +108,8 @@ pub fn judge(plan: Plan, s: u32, m: u32, n: usize) -> Figure
 
 // The class of the mean speed 10s/n, compared by cross-multiplying.
 fn class_of(s: u32, n: usize) -> usize
-    requires { ⌜ n ≤ windowMost ⌝ }
-    ensures { λ r. ⌜ r ≡ classOf (meanSpeed s n) ⌝ }
+    requires { n ≤ window_most }
+    ensures { result ≡ class_of (mean_speed s n) }
 {
     let speeds = 10 * (s as u64);
     let seconds = n as u64;
@@ -127,7 +127,7 @@ fn class_of(s: u32, n: usize) -> usize
 
 // The upper tolerance of a class.
 fn upper_of(plan: Plan, class: usize) -> u8
-    ensures { λ r. ⌜ r ≡ upperOf plan class ⌝ }
+    ensures { result ≡ upper_of plan class }
 {
     if class == base::road::URBAN {
         return plan.urban;
@@ -140,6 +140,7 @@ fn upper_of(plan: Plan, class: usize) -> u8
 
 // The curve at a mean speed: (above - under) / over. It can be negative, so the difference is not
 // taken before the sign is known.
+#[derive(Drop)]
 struct Curve {
     above: u64,
     under: u64,
@@ -148,8 +149,8 @@ struct Curve {
 
 // The curve at the mean speed 10s/n, one that has a class.
 fn curve_at(plan: Plan, s: u32, n: usize) -> Curve
-    requires { ⌜ (planInRange plan ≡ true) × (0 < n) × (n ≤ windowMost) × (10 * s < motorwayBelow * n) ⌝ }
-    ensures { λ r. ⌜ (heldAs r ≡ curve plan (meanSpeed s n)) × CurveRoom r ⌝ }
+    requires { (plan_in_range plan ≡ true) × (0 < n) × (n ≤ window_most) × (10 * s < motorway_below * n) }
+    ensures { (held_as result ≡ curve plan (mean_speed s n)) × CurveRoom result }
 {
     if 10 * (s as u64) <= SPEED_OF_E2 * (n as u64) {
         return line_at(plan.e1, plan.e2, SPEED_OF_E1, FROM_E1_TO_E2, s, n);
@@ -159,8 +160,8 @@ fn curve_at(plan: Plan, s: u32, n: usize) -> Curve
 
 // The line from the value e at speed a to the value f at speed a + w: e + (f - e)(10s/n - a) / w.
 fn line_at(e: u32, f: u32, a: u64, w: u64, s: u32, n: usize) -> Curve
-    requires { ⌜ LineGiven e f a w s n ⌝ }
-    ensures { λ r. ⌜ (heldAs r ≡ lineAt e f a w (meanSpeed s n)) × CurveRoom r ⌝ }
+    requires { LineGiven e f a w s n }
+    ensures { (held_as result ≡ line_at e f a w (mean_speed s n)) × CurveRoom result }
 {
     let e = e as u64;
     let f = f as u64;
@@ -177,8 +178,8 @@ fn line_at(e: u32, f: u32, a: u64, w: u64, s: u32, n: usize) -> Curve
 // Whether 100w is from (100 - lower)c to (100 + upper)c, c the curve and w the figure 360,000m/s:
 // multiplied by both denominators, in two words.
 fn in_band(lower: u8, upper: u8, curve: Curve, s: u32, m: u32) -> bool
-    requires { ⌜ (lower ≤ toleranceMost) × CurveRoom curve × (0 < s) × (0 < m) ⌝ }
-    ensures { λ r. ⌜ r ≡ inBand lower upper (heldAs curve) (massPerKm s m) ⌝ }
+    requires { (lower ≤ tolerance_most) × CurveRoom curve × (0 < s) × (0 < m) }
+    ensures { result ≡ in_band lower upper (held_as curve) (mass_per_km s m) }
 {
     let above = curve.above;
     let under = curve.under;
@@ -198,8 +199,8 @@ fn in_band(lower: u8, upper: u8, curve: Curve, s: u32, m: u32) -> bool
 
 // The sum of kept speeds. Both halves are added at once, in half the steps: two speeds fit a u16.
 fn total_speed(speeds: &[u16]) -> u32
-    requires { ⌜ KeptSpeeds (now speeds) ⌝ }
-    ensures { λ r. ⌜ r ≡ sum (now (speeds .entry)) ⌝ }
+    requires { KeptSpeeds speeds.now }
+    ensures { result ≡ sum speeds.now }
 {
     let half = speeds.len() / 2;
     let mut total: u32 = 0;
@@ -216,8 +217,8 @@ fn total_speed(speeds: &[u16]) -> u32
 
 // A class with one window more.
 fn with_window(old: ClassCount, inside: bool) -> ClassCount
-    requires { ⌜ (old .windows < 2 ^ 31) × (old .inside < 2 ^ 31) ⌝ }
-    ensures { λ r. ⌜ r ≡ withWindow inside old ⌝ }
+    requires { (old.windows < 2 ^ 31) × (old.inside < 2 ^ 31) }
+    ensures { result ≡ with_window inside old }
 {
     ClassCount {
         windows: old.windows + 1,
@@ -227,7 +228,7 @@ fn with_window(old: ClassCount, inside: bool) -> ClassCount
 
 // 1 where it holds, else 0.
 fn one_if(holds: bool) -> u32
-    ensures { λ r. ⌜ r ≡ pick holds 1 0 ⌝ }
+    ensures { result ≡ pick holds 1 0 }
 {
     if holds { 1 } else { 0 }
 }

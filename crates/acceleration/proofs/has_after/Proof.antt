@@ -1,36 +1,36 @@
 -- `acceleration::has_after` meets its contract by the laws of the second after. Assumes nothing.
-use borrow.Author.Needs.{needs}
-use mathlib.Core.Path.{sym, _∙_}
+use borrow.Author.Rules.{rules}
+use mathlib.Core.Path.{sym, ◌∙◌}
 use native.Mathlib.Omega.{arith}
-use Rattle·acceleration·proofs.proofs.Neighbours as law
-use Rattle·acceleration·proofs.proofs.has_after.Statement.{statement}
-use Rattle·acceleration·proofs.proofs.has_after.Tie as tie
+use Rattle.acceleration.proofs.Neighbours as law
+use Rattle.acceleration.proofs.has_after.Statement.{statement}
+use Rattle.acceleration.proofs.has_after.Tie as tie
 
-add-if1 : tie.Need-add-if1
-add-if1 c = search needs
+add_if1 : tie.Need-overflow-add-if1
+add_if1 c = search rules
 
-add-has-values : tie.Need-add-has-values
-add-has-values c = search needs
+add_has_values : tie.Need-overflow-add-has-values
+add_has_values c = search rules
 
-shared-slice-read-has-values : tie.Need-shared-slice-read-has-values
-shared-slice-read-has-values c = search needs
+shared_slice_read_has_values : tie.Need-shared-slice-read-has-values
+shared_slice_read_has_values c = search rules
 
-has-values-requires : tie.Need-has-values-requires
-has-values-requires c κs = search needs
+has_values_requires : tie.Need-has-values-requires
+has_values_requires c κs = search rules
 
 returns : tie.Need-returns
-returns c = c .has-values .ensures ∙ sym (law.has-after (c .before .before .before .before .args .states .now) (c .before .before .before .before .args .i) (omega arith))
+returns c = c.has_values.ensures ∙ sym (law.has-after c.before.before.before.before.args.states.now c.before.before.before.before.args.i (omega arith))
 
-returns-2 : tie.Need-returns-2
-returns-2 c = sym (law.has-after-last (c .before .before .args .states .now) (c .before .before .args .i) (omega arith))
+returns_2 : tie.Need-returns-2
+returns_2 c = sym (law.has-after-last c.before.before.args.states.now c.before.before.args.i (omega arith))
 
-pub has-after-spec : {M : Type 1} → statement M
-has-after-spec =
+pub has_after_spec : {M : Type 1} → statement M
+has_after_spec =
     tie.close
     (tie.spec
-    add-if1
-    add-has-values
-    shared-slice-read-has-values
-    has-values-requires
+    add_if1
+    add_has_values
+    shared_slice_read_has_values
+    has_values_requires
     returns
-    returns-2)
+    returns_2)

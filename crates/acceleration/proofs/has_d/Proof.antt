@@ -1,32 +1,32 @@
 -- `acceleration::has_d` meets its contract: its tests are those of the definition, in the same order. Assumes nothing.
-use borrow.Author.Needs.{needs}
+use borrow.Author.Rules.{rules}
 use mathlib.Core.Path.{refl}
-use Rattle·acceleration·specs.specs.D.{hasD}
-use Rattle·acceleration·proofs.proofs.has_d.Statement.{statement}
-use Rattle·acceleration·proofs.proofs.has_d.Tie as tie
+use Rattle.acceleration.specs.D.{has_d}
+use Rattle.acceleration.proofs.has_d.Statement.{statement}
+use Rattle.acceleration.proofs.has_d.Tie as tie
 
-shared-slice-read-has-values : tie.Need-shared-slice-read-has-values
-shared-slice-read-has-values c = search needs
+shared_slice_read_has_values : tie.Need-shared-slice-read-has-values
+shared_slice_read_has_values c = search rules
 
-has-values-requires : tie.Need-has-values-requires
-has-values-requires c κs = search needs
+has_values_requires : tie.Need-has-values-requires
+has_values_requires c κs = search rules
 
-has-before-requires : tie.Need-has-before-requires
-has-before-requires c κs = search needs
+has_before_requires : tie.Need-has-before-requires
+has_before_requires c κs = search rules
 
-has-after-requires : tie.Need-has-after-requires
-has-after-requires c κs = search needs
+has_after_requires : tie.Need-has-after-requires
+has_after_requires c κs = search rules
 
 returns : tie.Need-returns
-unfolding hasD
-returns c = rw (c .has-after .ensures, c .before .has-before .ensures, c .before .before .has-values .ensures) refl
+unfolding has_d
+returns c = rw (c.has_after.ensures, c.before.has_before.ensures, c.before.before.has_values.ensures) refl
 
-pub has-d-spec : {M : Type 1} → statement M
-has-d-spec =
+pub has_d_spec : {M : Type 1} → statement M
+has_d_spec =
     tie.close
     (tie.spec
-    shared-slice-read-has-values
-    has-values-requires
-    has-before-requires
-    has-after-requires
+    shared_slice_read_has_values
+    has_values_requires
+    has_before_requires
+    has_after_requires
     returns)

@@ -1,116 +1,116 @@
 -- `acceleration::product_code` meets its contract: its tests are those of the definition, and the product of two u16 fits. Assumes nothing.
-use borrow.Author.Needs.{needs}
-use Prim.Native.Nat.{_+_, _-_, _*_, _≤_, _<_}
-use mathlib.Core.Path.{_≡_, sym, _∙_}
-use mathlib.Core.Bool.{Bool, true, false, _&&_}
+use borrow.Author.Rules.{rules}
+use Prim.Native.Nat.{◌+◌, ◌-◌, ◌*◌, ◌≤◌, ◌<◌}
+use mathlib.Core.Path.{◌≡◌, sym, ◌∙◌}
+use mathlib.Core.Bool.{Bool, true, false, ◌&&◌}
 use lib.Dec.{ltb}
-use lib.ListN.{getD}
+use lib.ListN.{get_or}
 use native.Mathlib.Omega.{arith}
-use Rattle·base.proofs.Products.{product-at-most}
-use Rattle·acceleration·specs.specs.D.{speedBefore, speedAfter, hasD}
-use Rattle·acceleration·proofs.proofs.Rise.{rises, code-in-other-bin, code-not-counted, code-counted}
-use Rattle·acceleration·proofs.proofs.product_code.Statement.{statement}
-use Rattle·acceleration·proofs.proofs.product_code.Tie as tie
+use Rattle.base.proofs.Products.{product_at_most}
+use Rattle.acceleration.specs.D.{speed_before, speed_after, has_d}
+use Rattle.acceleration.proofs.Rise.{rises, code_in_other_bin, code_not-counted, code_counted}
+use Rattle.acceleration.proofs.product_code.Statement.{statement}
+use Rattle.acceleration.proofs.product_code.Tie as tie
 
 -- the second test in the definition's words
 abbrev test : tie.Start → Bool
 test c =
-    let a = c .args in
-    hasD (a .states .now) (a .i) && ltb (speedBefore (a .speeds .now) (a .i) + 72) (speedAfter (a .speeds .now) (a .i))
+    let a = c.args in
+    has_d a.states.now a.i && ltb (speed_before a.speeds.now a.i + 72) (speed_after a.speeds.now a.i)
 
-passed : (c : tie.Then2) → test (c .before .before .before .before .before .before .before .before .before) ≡ true
-passed c = rw (sym (c .before .has-d .ensures), sym (c .before .before .speed-after .ensures), sym (c .before .before .before .speed-before .ensures)) (c .if2 .taken)
+passed : (c : tie.Then2) → test c.before.before.before.before.before.before.before.before.before ≡ true
+passed c = rw (sym c.before.has_d.ensures, sym c.before.before.speed_after.ensures, sym c.before.before.before.speed_before.ensures) c.if2.true
 
-not-passed : (c : tie.Else2) → test (c .before .before .before .before .before .before .before .before .before) ≡ false
-not-passed c = rw (sym (c .before .has-d .ensures), sym (c .before .before .speed-after .ensures), sym (c .before .before .before .speed-before .ensures)) (c .if2 .left)
+not_passed : (c : tie.Else2) → test c.before.before.before.before.before.before.before.before.before ≡ false
+not_passed c = rw (sym c.before.has_d.ensures, sym c.before.before.speed_after.ensures, sym c.before.before.before.speed_before.ensures) c.if2.false
 
 -- D is above 72 there
-rise : (c : tie.Then2) → c .before .before .before .speed-before .result + 72 < c .before .before .speed-after .result
+rise : (c : tie.Then2) → c.before.before.before.speed_before.result + 72 < c.before.before.speed_after.result
 rise c =
-    let a = c .before .before .before .before .before .before .before .before .before .args in
-    let h = rises (a .states .now) (a .speeds .now) (a .i) (passed c) in
-    omega (arith, c .before .before .speed-after .ensures, c .before .before .before .speed-before .ensures)
+    let a = c.before.before.before.before.before.before.before.before.before.args in
+    let h = rises a.states.now a.speeds.now a.i (passed c) in
+    omega (arith, c.before.before.speed_after.ensures, c.before.before.before.speed_before.ensures)
 
 -- the product is one of two u16
-small : (c : tie.Then2) → getD (c .before .before .before .before .before .before .before .before .before .args .speeds .now) (c .before .before .before .before .before .before .before .before .before .args .i) 0 * (c .before .before .speed-after .result - c .before .before .before .speed-before .result) ≤ 65_535 * 65_535
+small : (c : tie.Then2) → get_or c.before.before.before.before.before.before.before.before.before.args.speeds.now c.before.before.before.before.before.before.before.before.before.args.i 0 * (c.before.before.speed_after.result - c.before.before.before.speed_before.result) ≤ 65_535 * 65_535
 small c =
-    product-at-most {m = 65_535} {n = 65_535} (65_535 * 65_535)
-    (omega (arith, c .before .before .before .before .before .before .before .shared-slice-known2 .given (c .before .before .before .before .before .before .before .before .before .args .i)))
+    product_at_most {m = 65_535} {n = 65_535} (65_535 * 65_535)
+    (omega (arith, c.before.before.before.before.before.before.before.shared-slice-known2.given c.before.before.before.before.before.before.before.before.before.args.i))
     (omega arith)
     tt
 
-mul-speed : tie.Need-mul-speed
-mul-speed c = search needs
+mul_speed : tie.Need-overflow-mul-speed
+mul_speed c = search rules
 
-shared-slice-read-speed : tie.Need-shared-slice-read-speed
-shared-slice-read-speed c = search needs
+shared_slice_read_speed : tie.Need-shared-slice-read-speed
+shared_slice_read_speed c = search rules
 
-bin-of-requires : tie.Need-bin-of-requires
-bin-of-requires c κs = search needs
+bin_of_requires : tie.Need-bin-of-requires
+bin_of_requires c κs = search rules
 
 returns : tie.Need-returns
 returns c =
-    let a = c .before .before .before .before .before .args in
-    sym (code-in-other-bin (a .states .now) (a .speeds .now) (a .i) (a .bin) (λ e. c .if1 .taken (c .before .bin-of .ensures ∙ e)))
+    let a = c.before.before.before.before.before.args in
+    sym (code_in_other_bin a.states.now a.speeds.now a.i a.bin (λ e. c.if1.true (c.before.bin_of.ensures ∙ e)))
 
-speed-before-requires : tie.Need-speed-before-requires
-speed-before-requires c κs = search needs
+speed_before_requires : tie.Need-speed-before-requires
+speed_before_requires c κs = search rules
 
-cast-before : tie.Need-cast-before
-cast-before c = search needs
+cast_before : tie.Need-overflow-cast-before
+cast_before c = search rules
 
-speed-after-requires : tie.Need-speed-after-requires
-speed-after-requires c κs = search needs
+speed_after_requires : tie.Need-speed-after-requires
+speed_after_requires c κs = search rules
 
-cast-after : tie.Need-cast-after
-cast-after c = search needs
+cast_after : tie.Need-overflow-cast-after
+cast_after c = search rules
 
-has-d-requires : tie.Need-has-d-requires
-has-d-requires c κs = search needs
+has_d_requires : tie.Need-has-d-requires
+has_d_requires c κs = search rules
 
-add-if2 : tie.Need-add-if2
-add-if2 c = search needs
+add_if2 : tie.Need-overflow-add-if2
+add_if2 c = search rules
 
-cast-result : tie.Need-cast-result
-cast-result c = omega (arith, c .before .before .before .before .before .before .before .shared-slice-known2 .given (c .before .before .before .before .before .before .before .before .before .args .i))
+cast_result : tie.Need-overflow-cast-result
+cast_result c = omega (arith, c.before.before.before.before.before.before.before.shared-slice-known2.given c.before.before.before.before.before.before.before.before.before.args.i)
 
-sub-result : tie.Need-sub-result
-sub-result c = omega (arith, rise c)
+sub_result : tie.Need-overflow-sub-result
+sub_result c = omega (arith, rise c)
 
-mul-result : tie.Need-mul-result
-mul-result c = omega (arith, small c)
+mul_result : tie.Need-overflow-mul-result
+mul_result c = omega (arith, small c)
 
-add-result : tie.Need-add-result
-add-result c = omega (arith, small c)
+add_result : tie.Need-overflow-add-result
+add_result c = omega (arith, small c)
 
-returns-2 : tie.Need-returns-2
-returns-2 c =
-    let a = c .before .before .before .before .before .before .before .before .before .args in
-    let same = sym (c .before .before .before .before .before .bin-of .ensures) ∙ c .before .before .before .before .if1 .left in
-    rw (c .before .before .speed-after .ensures, c .before .before .before .speed-before .ensures) (sym (code-counted (a .states .now) (a .speeds .now) (a .i) (a .bin) same (passed c)))
+returns_2 : tie.Need-returns-2
+returns_2 c =
+    let a = c.before.before.before.before.before.before.before.before.before.args in
+    let same = sym c.before.before.before.before.before.bin_of.ensures ∙ c.before.before.before.before.if1.false in
+    rw (c.before.before.speed_after.ensures, c.before.before.before.speed_before.ensures) (sym (code_counted a.states.now a.speeds.now a.i a.bin same (passed c)))
 
-returns-3 : tie.Need-returns-3
-returns-3 c =
-    let a = c .before .before .before .before .before .before .before .before .before .args in
-    sym (code-not-counted (a .states .now) (a .speeds .now) (a .i) (a .bin) (not-passed c))
+returns_3 : tie.Need-returns-3
+returns_3 c =
+    let a = c.before.before.before.before.before.before.before.before.before.args in
+    sym (code_not-counted a.states.now a.speeds.now a.i a.bin (not_passed c))
 
-pub product-code-spec : {M : Type 1} → statement M
-product-code-spec =
+pub product_code_spec : {M : Type 1} → statement M
+product_code_spec =
     tie.close
     (tie.spec
-    mul-speed
-    shared-slice-read-speed
-    bin-of-requires
+    mul_speed
+    shared_slice_read_speed
+    bin_of_requires
     returns
-    speed-before-requires
-    cast-before
-    speed-after-requires
-    cast-after
-    has-d-requires
-    add-if2
-    cast-result
-    sub-result
-    mul-result
-    add-result
-    returns-2
-    returns-3)
+    speed_before_requires
+    cast_before
+    speed_after_requires
+    cast_after
+    has_d_requires
+    add_if2
+    cast_result
+    sub_result
+    mul_result
+    add_result
+    returns_2
+    returns_3)

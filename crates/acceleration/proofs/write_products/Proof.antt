@@ -1,98 +1,98 @@
 -- `acceleration::write_products` meets its contract: after i seconds the lane begins with their products, and the rest of it is as it
 -- was. Assumes nothing.
-use borrow.Author.Needs.{needs}
-use Prim.Native.Nat.{_-_, _<_}
+use borrow.Author.Rules.{rules}
+use Prim.Native.Nat.{◌-◌, ◌<◌}
 use lib.ListN.{length}
 use native.Mathlib.Omega.{arith}
-use Rattle·acceleration·proofs.proofs.Writing.{Written, written-none, written-same, written-more, has-room, all-counted, all-stored}
-use Rattle·acceleration·proofs.proofs.write_products.Statement.{statement}
-use Rattle·acceleration·proofs.proofs.write_products.Tie as tie
+use Rattle.acceleration.proofs.Writing.{Written, written_none, written_same, written_more, has_room, all_counted, all_stored}
+use Rattle.acceleration.proofs.write_products.Statement.{statement}
+use Rattle.acceleration.proofs.write_products.Tie as tie
 
-abbrev Inv-loop : tie.InvT-loop
-Inv-loop states speeds bin lane₀ count₀ total₀ i₀ lane count total i = Written bin states speeds lane₀ i lane count total
+abbrev invariant_loop : tie.invariant-loop
+invariant_loop states speeds bin lane₀ count₀ total₀ i₀ lane count total i = Written bin states speeds lane₀ i lane count total
 
-abbrev μ-loop : tie.MeasureT-loop
-μ-loop states speeds bin lane₀ count₀ total₀ i₀ lane count total i = length states - i
+abbrev decreases_loop : tie.decreases-loop
+decreases_loop states speeds bin lane₀ count₀ total₀ i₀ lane count total i = length states - i
 
 -- there is a place for one product more
-room-at : (c : tie.Then1 Inv-loop μ-loop) → c .before .before .before .loop .count < length (c .before .before .before .loop .lane)
-room-at c =
-    let a = c .before .before .before .before .before .before .before .args in
-    let l = c .before .before .before .loop in
-    has-room (a .bin) (a .states .now) (a .speeds .now) (l .inv) (omega arith) (c .before .product-code .ensures) (omega arith) (c .before .before .before .before .before .before .before .pre .1)
+room_at : (c : tie.Then1 invariant_loop decreases_loop) → c.before.before.before.loop.count < length c.before.before.before.loop.lane
+room_at c =
+    let a = c.before.before.before.before.before.before.before.args in
+    let l = c.before.before.before.loop in
+    has_room a.bin a.states.now a.speeds.now l.invariant (omega arith) c.before.product_code.ensures (omega arith) c.before.before.before.before.before.before.before.requires.1
 
-loop-holds : tie.Need-loop-holds Inv-loop μ-loop
-loop-holds c = written-none _ _ _ _
+loop_holds : tie.Need-loop-init invariant_loop decreases_loop
+loop_holds c = written_none _ _ _ _
 
-product-code-requires : tie.Need-product-code-requires Inv-loop μ-loop
-product-code-requires c κs = (omega arith, omega (arith, c .before .before .before .before .before .pre .0 .agree))
+product_code_requires : tie.Need-product-code-requires invariant_loop decreases_loop
+product_code_requires c κs = (omega arith, omega (arith, c.before.before.before.before.before.requires.0.agree))
 
-add-i : tie.Need-add-i Inv-loop μ-loop
-add-i c = search needs
+add_i : tie.Need-overflow-add-i invariant_loop decreases_loop
+add_i c = search rules
 
-sub-product : tie.Need-sub-product Inv-loop μ-loop
-sub-product c = omega arith
+sub_product : tie.Need-overflow-sub-product invariant_loop decreases_loop
+sub_product c = omega arith
 
-mul-lane : tie.Need-mul-lane Inv-loop μ-loop
-mul-lane c = let room = room-at c in search needs
+mul_lane : tie.Need-overflow-mul-lane invariant_loop decreases_loop
+mul_lane c = let room = room_at c in search rules
 
-slice-write-lane : tie.Need-slice-write-lane Inv-loop μ-loop
-slice-write-lane c = room-at c
+slice_write_lane : tie.Need-slice-write-lane invariant_loop decreases_loop
+slice_write_lane c = room_at c
 
-add-count : tie.Need-add-count Inv-loop μ-loop
-add-count c = let room = room-at c in search needs
+add_count : tie.Need-overflow-add-count invariant_loop decreases_loop
+add_count c = let room = room_at c in search rules
 
-cast-total : tie.Need-cast-total Inv-loop μ-loop
-cast-total c = omega arith
+cast_total : tie.Need-overflow-cast-total invariant_loop decreases_loop
+cast_total c = omega arith
 
-add-total : tie.Need-add-total Inv-loop μ-loop
-add-total c = omega (arith, c .before .before .before .before .before .before .before .pre .0 .few, c .before .before .before .loop .inv .small)
+add_total : tie.Need-overflow-add-total invariant_loop decreases_loop
+add_total c = omega (arith, c.before.before.before.before.before.before.before.requires.0.few, c.before.before.before.loop.invariant.small)
 
-loop-less : tie.Need-loop-less Inv-loop μ-loop
-loop-less c = omega arith
+loop_less : tie.Need-loop-smaller invariant_loop decreases_loop
+loop_less c = omega arith
 
-loop-again : tie.Need-loop-again Inv-loop μ-loop
-loop-again c =
-    let a = c .before .before .before .before .before .before .before .args in
-    let l = c .before .before .before .loop in
-    written-more (a .bin) (a .states .now) (a .speeds .now) (l .inv) (omega arith) (c .before .product-code .ensures) (omega arith) (c .before .before .before .before .before .before .before .pre .1) (omega arith)
+loop_again : tie.Need-loop-preserved invariant_loop decreases_loop
+loop_again c =
+    let a = c.before.before.before.before.before.before.before.args in
+    let l = c.before.before.before.loop in
+    written_more a.bin a.states.now a.speeds.now l.invariant (omega arith) c.before.product_code.ensures (omega arith) c.before.before.before.before.before.before.before.requires.1 (omega arith)
 
-loop-less-2 : tie.Need-loop-less-2 Inv-loop μ-loop
-loop-less-2 c = omega arith
+loop_less_2 : tie.Need-loop-smaller-2 invariant_loop decreases_loop
+loop_less_2 c = omega arith
 
-loop-again-2 : tie.Need-loop-again-2 Inv-loop μ-loop
-loop-again-2 c =
-    let a = c .before .before .before .before .before .before .before .args in
-    let l = c .before .before .before .loop in
-    written-same (a .bin) (a .states .now) (a .speeds .now) (l .inv) (omega arith) (c .before .product-code .ensures) (omega arith)
+loop_again_2 : tie.Need-loop-preserved-2 invariant_loop decreases_loop
+loop_again_2 c =
+    let a = c.before.before.before.before.before.before.before.args in
+    let l = c.before.before.before.loop in
+    written_same a.bin a.states.now a.speeds.now l.invariant (omega arith) c.before.product_code.ensures (omega arith)
 
-same-length : tie.Need-same-length Inv-loop μ-loop
-same-length c = search needs
+same_length : tie.Need-same-length invariant_loop decreases_loop
+same_length c = search rules
 
-returns : tie.Need-returns Inv-loop μ-loop
+returns : tie.Need-returns invariant_loop decreases_loop
 returns c =
-    let a = c .before .before .before .before .before .args in
-    let l = c .before .loop in
-    (all-counted (a .bin) (a .states .now) (a .speeds .now) (l .inv) (omega arith), all-stored (a .bin) (a .states .now) (a .speeds .now) (l .inv) (omega arith))
+    let a = c.before.before.before.before.before.args in
+    let l = c.before.loop in
+    (all_counted a.bin a.states.now a.speeds.now l.invariant (omega arith), all_stored a.bin a.states.now a.speeds.now l.invariant (omega arith))
 
-pub write-products-spec : {M : Type 1} → statement M
-write-products-spec =
+pub write_products_spec : {M : Type 1} → statement M
+write_products_spec =
     tie.close
     (tie.spec
-    Inv-loop
-    μ-loop
-    loop-holds
-    product-code-requires
-    add-i
-    sub-product
-    mul-lane
-    slice-write-lane
-    add-count
-    cast-total
-    add-total
-    loop-less
-    loop-again
-    loop-less-2
-    loop-again-2
-    same-length
+    invariant_loop
+    decreases_loop
+    loop_holds
+    product_code_requires
+    add_i
+    sub_product
+    mul_lane
+    slice_write_lane
+    add_count
+    cast_total
+    add_total
+    loop_less
+    loop_again
+    loop_less_2
+    loop_again_2
+    same_length
     returns)

@@ -1,52 +1,52 @@
 -- `bins::join` meets its contract: the three bins are those of the definition. Assumes nothing.
-use borrow.Author.Needs.{needs}
+use borrow.Author.Rules.{rules}
 use mathlib.Core.Path.{refl}
-use Rattle·bins·specs.specs.Inside.{joinedAll}
-use Rattle·bins·proofs.proofs.join.Statement.{statement}
-use Rattle·bins·proofs.proofs.join.Tie as tie
+use Rattle.bins.specs.Inside.{joined_all}
+use Rattle.bins.proofs.join.Statement.{statement}
+use Rattle.bins.proofs.join.Tie as tie
 
-array-copy-out-urban : tie.Need-array-copy-out-urban
-array-copy-out-urban c = search needs
+array_copy_out_urban : tie.Need-array-copy-out-urban
+array_copy_out_urban c = search rules
 
-array-copy-out-rural : tie.Need-array-copy-out-rural
-array-copy-out-rural c = search needs
+array_copy_out_rural : tie.Need-array-copy-out-rural
+array_copy_out_rural c = search rules
 
-array-copy-out-motorway : tie.Need-array-copy-out-motorway
-array-copy-out-motorway c = search needs
+array_copy_out_motorway : tie.Need-array-copy-out-motorway
+array_copy_out_motorway c = search rules
 
-array-copy-out-urban-figures : tie.Need-array-copy-out-urban-figures
-array-copy-out-urban-figures c = search needs
+array_copy_out_urban_figures : tie.Need-array-copy-out-urban-figures
+array_copy_out_urban_figures c = search rules
 
-array-copy-out-rural-figures : tie.Need-array-copy-out-rural-figures
-array-copy-out-rural-figures c = search needs
+array_copy_out_rural_figures : tie.Need-array-copy-out-rural-figures
+array_copy_out_rural_figures c = search rules
 
-array-copy-out-motorway-figures : tie.Need-array-copy-out-motorway-figures
-array-copy-out-motorway-figures c = search needs
+array_copy_out_motorway_figures : tie.Need-array-copy-out-motorway-figures
+array_copy_out_motorway_figures c = search rules
 
-bin-of-requires : tie.Need-bin-of-requires
-bin-of-requires c κs = search needs
+bin_of_requires : tie.Need-bin-of-requires
+bin_of_requires c κs = search rules
 
-bin-of-requires-2 : tie.Need-bin-of-requires-2
-bin-of-requires-2 c κs = search needs
+bin_of_requires_2 : tie.Need-bin-of-requires-2
+bin_of_requires_2 c κs = search rules
 
-bin-of-requires-3 : tie.Need-bin-of-requires-3
-bin-of-requires-3 c κs = search needs
+bin_of_requires_3 : tie.Need-bin-of-requires-3
+bin_of_requires_3 c κs = search rules
 
 returns : tie.Need-returns
-unfolding joinedAll
-returns c = rw (c .bin-of3 .ensures, c .before .bin-of2 .ensures, c .before .before .bin-of .ensures) refl
+unfolding joined_all
+returns c = rw (c.bin_of3.ensures, c.before.bin_of2.ensures, c.before.before.bin_of.ensures) refl
 
-pub join-spec : {M : Type 1} → statement M
-join-spec =
+pub join_spec : {M : Type 1} → statement M
+join_spec =
     tie.close
     (tie.spec
-    array-copy-out-urban
-    array-copy-out-rural
-    array-copy-out-motorway
-    array-copy-out-urban-figures
-    array-copy-out-rural-figures
-    array-copy-out-motorway-figures
-    bin-of-requires
-    bin-of-requires-2
-    bin-of-requires-3
+    array_copy_out_urban
+    array_copy_out_rural
+    array_copy_out_motorway
+    array_copy_out_urban_figures
+    array_copy_out_rural_figures
+    array_copy_out_motorway_figures
+    bin_of_requires
+    bin_of_requires_2
+    bin_of_requires_3
     returns)

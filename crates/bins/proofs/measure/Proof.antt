@@ -1,40 +1,40 @@
 -- `bins::measure` meets its contract: tallies and dynamics put together are the bins. Assumes nothing.
-use borrow.Author.Needs.{needs}
+use borrow.Author.Rules.{rules}
 use mathlib.Core.Path.{refl}
-use Rattle·bins·proofs.proofs.Joining.{joins, totals, totals-fit}
-use Rattle·bins·proofs.proofs.measure.Statement.{statement}
-use Rattle·bins·proofs.proofs.measure.Tie as tie
+use Rattle.bins.proofs.Joining.{joins, totals, totals_fit}
+use Rattle.bins.proofs.measure.Statement.{statement}
+use Rattle.bins.proofs.measure.Tie as tie
 
-tally-bins-requires : tie.Need-tally-bins-requires
-tally-bins-requires c κs = search needs
+tally_bins_requires : tie.Need-tally-bins-requires
+tally_bins_requires c κs = search rules
 
-total-requires : tie.Need-total-requires
-total-requires c κs =
-    rw (c .tally-bins .ensures)
-    (totals-fit _ _ _ _ _ _ (λ k. c .before .before .before .before .before .before .shared-slice-known2 .given k .fits) (λ k. c .before .before .before .before .before .shared-slice-known3 .given k .fits) (λ k. c .before .before .before .before .shared-slice-known4 .given k .fits) (c .before .before .before .before .before .before .before .before .pre .counts-in-range) (c .before .before .before .before .before .before .before .before .pre .few))
+total_requires : tie.Need-total-requires
+total_requires c κs =
+    rw c.tally_bins.ensures
+    (totals_fit _ _ _ _ _ _ (λ k. (c.before.before.before.before.before.before.shared-slice-known2.given k).fits) (λ k. (c.before.before.before.before.before.shared-slice-known3.given k).fits) (λ k. (c.before.before.before.before.shared-slice-known4.given k).fits) c.before.before.before.before.before.before.before.before.requires.counts_in_range c.before.before.before.before.before.before.before.before.requires.few)
 
-dynamics-requires : tie.Need-dynamics-requires
-dynamics-requires c κs = search needs
+dynamics_requires : tie.Need-dynamics-requires
+dynamics_requires c κs = search rules
 
-join-requires : tie.Need-join-requires
-join-requires c κs = search needs
+join_requires : tie.Need-join-requires
+join_requires c κs = search rules
 
-same-length : tie.Need-same-length
-same-length c = search needs
+same_length : tie.Need-same-length
+same_length c = search rules
 
 returns : tie.Need-returns
 returns c =
-    let figures = c .before .before .before .dynamics .ensures in
-    let tallies = c .before .before .before .before .before .before .tally-bins .ensures in
-    (rw (c .join .ensures, figures .0, c .before .before .before .before .before .total .ensures, tallies, joins, totals) refl, figures .1)
+    let figures = c.before.before.before.dynamics.ensures in
+    let tallies = c.before.before.before.before.before.before.tally_bins.ensures in
+    (rw (c.join.ensures, figures.0, c.before.before.before.before.before.total.ensures, tallies, joins, totals) refl, figures.1)
 
-pub measure-spec : {M : Type 1} → statement M
-measure-spec =
+pub measure_spec : {M : Type 1} → statement M
+measure_spec =
     tie.close
     (tie.spec
-    tally-bins-requires
-    total-requires
-    dynamics-requires
-    join-requires
-    same-length
+    tally_bins_requires
+    total_requires
+    dynamics_requires
+    join_requires
+    same_length
     returns)

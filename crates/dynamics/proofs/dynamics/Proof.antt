@@ -1,60 +1,60 @@
 -- `dynamics::dynamics` meets its contract: each bin's products are ranked right behind those of the bin before. Assumes nothing.
-use borrow.Author.Needs.{needs}
-use Rattle·dynamics·proofs.proofs.Three.{speed-lanes, room-urban, room-rural, room-motorway, all-figures, all-ranked}
-use Rattle·dynamics·proofs.proofs.dynamics.Statement.{statement}
-use Rattle·dynamics·proofs.proofs.dynamics.Tie as tie
+use borrow.Author.Rules.{rules}
+use Rattle.dynamics.proofs.Three.{speed_lanes, room_urban, room_rural, room_motorway, all_figures, all_ranked}
+use Rattle.dynamics.proofs.dynamics.Statement.{statement}
+use Rattle.dynamics.proofs.dynamics.Tie as tie
 
-dynamics-from-requires : tie.Need-dynamics-from-requires
-dynamics-from-requires c κs =
-    let s = c .before .before .before .before in
-    let a = s .args in
-    (speed-lanes (a .states .now) (a .speeds .now) (a .ranks .now) (s .pre), room-urban (a .states .now) (a .speeds .now) (a .ranks .now) (s .pre))
+dynamics_from_requires : tie.Need-dynamics-from-requires
+dynamics_from_requires c κs =
+    let s = c.before.before.before.before in
+    let a = s.args in
+    (speed_lanes a.states.now a.speeds.now a.ranks.now s.requires, room_urban a.states.now a.speeds.now a.ranks.now s.requires)
 
-cast-first : tie.Need-cast-first
-cast-first c = search needs
+cast_first : tie.Need-overflow-cast-first
+cast_first c = search rules
 
-dynamics-from-requires-2 : tie.Need-dynamics-from-requires-2
-dynamics-from-requires-2 c κs =
-    let s = c .before .before .before .before .before .before .before .before .before in
-    let a = s .args in
-    let u = c .before .before .before .before .dynamics-from .ensures in
-    (speed-lanes (a .states .now) (a .speeds .now) (a .ranks .now) (s .pre), room-rural (a .states .now) (a .speeds .now) (a .ranks .now) (s .pre) (u .0) (u .1))
+dynamics_from_requires_2 : tie.Need-dynamics-from-requires-2
+dynamics_from_requires_2 c κs =
+    let s = c.before.before.before.before.before.before.before.before.before in
+    let a = s.args in
+    let u = c.before.before.before.before.dynamics_from.ensures in
+    (speed_lanes a.states.now a.speeds.now a.ranks.now s.requires, room_rural a.states.now a.speeds.now a.ranks.now s.requires u.0 u.1)
 
-cast-both : tie.Need-cast-both
-cast-both c = search needs
+cast_both : tie.Need-overflow-cast-both
+cast_both c = search rules
 
-add-both : tie.Need-add-both
-add-both c = search needs
+add_both : tie.Need-overflow-add-both
+add_both c = search rules
 
-dynamics-from-requires-3 : tie.Need-dynamics-from-requires-3
-dynamics-from-requires-3 c κs =
-    let s = c .before .before .before .before .before .before .before .before .before .before .before .before .before .before in
-    let a = s .args in
-    let u = c .before .before .before .before .before .before .before .before .before .dynamics-from .ensures in
-    let r = c .before .before .before .before .dynamics-from2 .ensures in
-    (speed-lanes (a .states .now) (a .speeds .now) (a .ranks .now) (s .pre), room-motorway (a .states .now) (a .speeds .now) (a .ranks .now) (s .pre) (u .0) (u .1) (r .0) (r .1))
+dynamics_from_requires_3 : tie.Need-dynamics-from-requires-3
+dynamics_from_requires_3 c κs =
+    let s = c.before.before.before.before.before.before.before.before.before.before.before.before.before.before in
+    let a = s.args in
+    let u = c.before.before.before.before.before.before.before.before.before.dynamics_from.ensures in
+    let r = c.before.before.before.before.dynamics_from2.ensures in
+    (speed_lanes a.states.now a.speeds.now a.ranks.now s.requires, room_motorway a.states.now a.speeds.now a.ranks.now s.requires u.0 u.1 r.0 r.1)
 
-same-length : tie.Need-same-length
-same-length c = search needs
+same_length : tie.Need-same-length
+same_length c = search rules
 
 returns : tie.Need-returns
 returns c =
-    let s = c .before .before .before .before .before .before .before .before .before .before .before .before .before .before .before .before .before in
-    let a = s .args in
-    let u = c .before .before .before .before .before .before .before .before .before .before .before .before .dynamics-from .ensures in
-    let r = c .before .before .before .before .before .before .before .dynamics-from2 .ensures in
-    let m = c .before .before .dynamics-from3 .ensures in
-    (all-figures (a .states .now) (a .speeds .now) (a .ranks .now) (s .pre) (u .0) (u .1) (r .0) (r .1) (m .0) (m .1), all-ranked (a .states .now) (a .speeds .now) (a .ranks .now) (s .pre) (u .0) (u .1) (r .0) (r .1) (m .0) (m .1))
+    let s = c.before.before.before.before.before.before.before.before.before.before.before.before.before.before.before.before.before in
+    let a = s.args in
+    let u = c.before.before.before.before.before.before.before.before.before.before.before.before.dynamics_from.ensures in
+    let r = c.before.before.before.before.before.before.before.dynamics_from2.ensures in
+    let m = c.before.before.dynamics_from3.ensures in
+    (all_figures a.states.now a.speeds.now a.ranks.now s.requires u.0 u.1 r.0 r.1 m.0 m.1, all_ranked a.states.now a.speeds.now a.ranks.now s.requires u.0 u.1 r.0 r.1 m.0 m.1)
 
-pub dynamics-spec : {M : Type 1} → statement M
-dynamics-spec =
+pub dynamics_spec : {M : Type 1} → statement M
+dynamics_spec =
     tie.close
     (tie.spec
-    dynamics-from-requires
-    cast-first
-    dynamics-from-requires-2
-    cast-both
-    add-both
-    dynamics-from-requires-3
-    same-length
+    dynamics_from_requires
+    cast_first
+    dynamics_from_requires_2
+    cast_both
+    add_both
+    dynamics_from_requires_3
+    same_length
     returns)

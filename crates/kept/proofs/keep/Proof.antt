@@ -1,112 +1,112 @@
 -- `kept::keep` meets its contract: after i seconds each lane begins with the values of those kept, and the rest of it is as it was.
 -- Assumes nothing.
-use borrow.Author.Needs.{needs}
-use Prim.Native.Nat.{_-_, _≤_}
-use mathlib.Core.Path.{_≡_, sym, _∙_}
+use borrow.Author.Rules.{rules}
+use Prim.Native.Nat.{◌-◌, ◌≤◌}
+use mathlib.Core.Path.{◌≡◌, sym, ◌∙◌}
 use native.Mathlib.Omega.{arith}
 use lib.ListN.{length}
-use Rattle·kept·proofs.proofs.Keeping.{Front, front-none, front-same, front-room, front-more}
-use Rattle·kept·proofs.proofs.keep.Statement.{statement}
-use Rattle·kept·proofs.proofs.keep.Tie as tie
+use Rattle.kept.proofs.Keeping.{Front, front_none, front_same, front_room, front_more}
+use Rattle.kept.proofs.keep.Statement.{statement}
+use Rattle.kept.proofs.keep.Tie as tie
 
-abbrev Inv-loop : tie.InvT-loop
-Inv-loop states speeds co2 kept-speeds₀ kept-co2₀ count₀ i₀ kept-speeds kept-co2 count i = (i ≤ length states) × Front states speeds speeds kept-speeds₀ i count kept-speeds × Front states speeds co2 kept-co2₀ i count kept-co2
+abbrev invariant_loop : tie.invariant-loop
+invariant_loop states speeds co2 kept_speeds₀ kept_co2₀ count₀ i₀ kept_speeds_lem kept_co2_lem count i = (i ≤ length states) × Front states speeds speeds kept_speeds₀ i count kept_speeds_lem × Front states speeds co2 kept_co2₀ i count kept_co2_lem
 
-abbrev μ-loop : tie.MeasureT-loop
-μ-loop states speeds co2 kept-speeds₀ kept-co2₀ count₀ i₀ kept-speeds kept-co2 count i = length states - i
+abbrev decreases_loop : tie.decreases-loop
+decreases_loop states speeds co2 kept_speeds₀ kept_co2₀ count₀ i₀ kept_speeds_lem kept_co2_lem count i = length states - i
 
-loop-holds : tie.Need-loop-holds Inv-loop μ-loop
-loop-holds c = (omega arith, front-none _ _ _ _, front-none _ _ _ _)
+loop_holds : tie.Need-loop-init invariant_loop decreases_loop
+loop_holds c = (omega arith, front_none _ _ _ _, front_none _ _ _ _)
 
-mul-speed : tie.Need-mul-speed Inv-loop μ-loop
-mul-speed c = search needs
+mul_speed : tie.Need-overflow-mul-speed invariant_loop decreases_loop
+mul_speed c = search rules
 
-shared-slice-read-speed : tie.Need-shared-slice-read-speed Inv-loop μ-loop
-shared-slice-read-speed c = search needs
+shared_slice_read_speed : tie.Need-shared-slice-read-speed invariant_loop decreases_loop
+shared_slice_read_speed c = search rules
 
-mul-mass : tie.Need-mul-mass Inv-loop μ-loop
-mul-mass c = search needs
+mul_mass : tie.Need-overflow-mul-mass invariant_loop decreases_loop
+mul_mass c = search rules
 
-shared-slice-read-mass : tie.Need-shared-slice-read-mass Inv-loop μ-loop
-shared-slice-read-mass c = search needs
+shared_slice_read_mass : tie.Need-shared-slice-read-mass invariant_loop decreases_loop
+shared_slice_read_mass c = search rules
 
-shared-slice-read-is-kept : tie.Need-shared-slice-read-is-kept Inv-loop μ-loop
-shared-slice-read-is-kept c = search needs
+shared_slice_read_is_kept : tie.Need-shared-slice-read-is-kept invariant_loop decreases_loop
+shared_slice_read_is_kept c = search rules
 
-is-kept-requires : tie.Need-is-kept-requires Inv-loop μ-loop
-is-kept-requires c κs = search needs
+is_kept_requires : tie.Need-is-kept-requires invariant_loop decreases_loop
+is_kept_requires c κs = search rules
 
-add-i : tie.Need-add-i Inv-loop μ-loop
-add-i c = search needs
+add_i : tie.Need-overflow-add-i invariant_loop decreases_loop
+add_i c = search rules
 
-mul-kept-speeds : tie.Need-mul-kept-speeds Inv-loop μ-loop
-mul-kept-speeds c = let room = front-room _ _ (c .before .before .before .before .before .before .loop .inv .1) (omega (arith, c .before .before .before .before .before .before .before .before .before .before .before .before .pre .speeds-room)) in search needs
+mul_kept_speeds : tie.Need-overflow-mul-kept-speeds invariant_loop decreases_loop
+mul_kept_speeds c = let room = front_room _ _ c.before.before.before.before.before.before.loop.invariant.1 (omega (arith, c.before.before.before.before.before.before.before.before.before.before.before.before.requires.speeds_room)) in search rules
 
-slice-write-kept-speeds : tie.Need-slice-write-kept-speeds Inv-loop μ-loop
-slice-write-kept-speeds c = let room = front-room _ _ (c .before .before .before .before .before .before .loop .inv .1) (omega (arith, c .before .before .before .before .before .before .before .before .before .before .before .before .pre .speeds-room)) in search needs
+slice_write_kept_speeds : tie.Need-slice-write-kept-speeds invariant_loop decreases_loop
+slice_write_kept_speeds c = let room = front_room _ _ c.before.before.before.before.before.before.loop.invariant.1 (omega (arith, c.before.before.before.before.before.before.before.before.before.before.before.before.requires.speeds_room)) in search rules
 
-mul-kept-co2 : tie.Need-mul-kept-co2 Inv-loop μ-loop
-mul-kept-co2 c = let room = front-room _ _ (c .before .before .before .before .before .before .loop .inv .2) (omega (arith, c .before .before .before .before .before .before .before .before .before .before .before .before .pre .co2-room)) in search needs
+mul_kept_co2 : tie.Need-overflow-mul-kept-co2 invariant_loop decreases_loop
+mul_kept_co2 c = let room = front_room _ _ c.before.before.before.before.before.before.loop.invariant.2 (omega (arith, c.before.before.before.before.before.before.before.before.before.before.before.before.requires.co2_room)) in search rules
 
-slice-write-kept-co2 : tie.Need-slice-write-kept-co2 Inv-loop μ-loop
-slice-write-kept-co2 c = let room = front-room _ _ (c .before .before .before .before .before .before .loop .inv .2) (omega (arith, c .before .before .before .before .before .before .before .before .before .before .before .before .pre .co2-room)) in search needs
+slice_write_kept_co2 : tie.Need-slice-write-kept-co2 invariant_loop decreases_loop
+slice_write_kept_co2 c = let room = front_room _ _ c.before.before.before.before.before.before.loop.invariant.2 (omega (arith, c.before.before.before.before.before.before.before.before.before.before.before.before.requires.co2_room)) in search rules
 
-add-count : tie.Need-add-count Inv-loop μ-loop
-add-count c = let room = front-room _ _ (c .before .before .before .before .before .before .loop .inv .1) (omega (arith, c .before .before .before .before .before .before .before .before .before .before .before .before .pre .speeds-room)) in search needs
+add_count : tie.Need-overflow-add-count invariant_loop decreases_loop
+add_count c = let room = front_room _ _ c.before.before.before.before.before.before.loop.invariant.1 (omega (arith, c.before.before.before.before.before.before.before.before.before.before.before.before.requires.speeds_room)) in search rules
 
-loop-less : tie.Need-loop-less Inv-loop μ-loop
-loop-less c = omega arith
+loop_less : tie.Need-loop-smaller invariant_loop decreases_loop
+loop_less c = omega arith
 
-loop-again : tie.Need-loop-again Inv-loop μ-loop
-loop-again c =
-    let l = c .before .before .before .before .before .before .loop in
-    let kept = sym (c .before .is-kept .ensures) ∙ c .if1 .taken in
-    (omega arith, front-more _ _ (l .inv .1) kept (omega (arith, c .before .before .before .before .before .before .before .before .before .before .before .before .pre .speeds-room)), front-more _ _ (l .inv .2) kept (omega (arith, c .before .before .before .before .before .before .before .before .before .before .before .before .pre .co2-room)))
+loop_again : tie.Need-loop-preserved invariant_loop decreases_loop
+loop_again c =
+    let l = c.before.before.before.before.before.before.loop in
+    let kept = sym c.before.is_kept.ensures ∙ c.if1.true in
+    (omega arith, front_more _ _ l.invariant.1 kept (omega (arith, c.before.before.before.before.before.before.before.before.before.before.before.before.requires.speeds_room)), front_more _ _ l.invariant.2 kept (omega (arith, c.before.before.before.before.before.before.before.before.before.before.before.before.requires.co2_room)))
 
-loop-less-2 : tie.Need-loop-less-2 Inv-loop μ-loop
-loop-less-2 c = omega arith
+loop_less_2 : tie.Need-loop-smaller-2 invariant_loop decreases_loop
+loop_less_2 c = omega arith
 
-loop-again-2 : tie.Need-loop-again-2 Inv-loop μ-loop
-loop-again-2 c =
-    let l = c .before .before .before .before .before .before .loop in
-    let left = sym (c .before .is-kept .ensures) ∙ c .if1 .left in
-    (omega arith, front-same _ _ (l .inv .1) left, front-same _ _ (l .inv .2) left)
+loop_again_2 : tie.Need-loop-preserved-2 invariant_loop decreases_loop
+loop_again_2 c =
+    let l = c.before.before.before.before.before.before.loop in
+    let left = sym c.before.is_kept.ensures ∙ c.if1.false in
+    (omega arith, front_same _ _ l.invariant.1 left, front_same _ _ l.invariant.2 left)
 
-same-length : tie.Need-same-length Inv-loop μ-loop
-same-length c = search needs
+same_length : tie.Need-same-length invariant_loop decreases_loop
+same_length c = search rules
 
-same-length-2 : tie.Need-same-length-2 Inv-loop μ-loop
-same-length-2 c = search needs
+same_length_2 : tie.Need-same-length-2 invariant_loop decreases_loop
+same_length_2 c = search rules
 
-returns : tie.Need-returns Inv-loop μ-loop
+returns : tie.Need-returns invariant_loop decreases_loop
 returns c =
-    let l = c .before .loop in
-    let all : l .i ≡ length (c .before .before .before .before .before .before .before .args .states .now) = omega arith in
-    (rw (sym all) (l .inv .2 .counted), rw (sym all) (l .inv .1 .stored), rw (sym all) (l .inv .2 .stored))
+    let l = c.before.loop in
+    let all : l.i ≡ length c.before.before.before.before.before.before.before.args.states.now = omega arith in
+    (rw (sym all) l.invariant.2.counted, rw (sym all) l.invariant.1.stored, rw (sym all) l.invariant.2.stored)
 
-pub keep-spec : {M : Type 1} → statement M
-keep-spec =
+pub keep_spec : {M : Type 1} → statement M
+keep_spec =
     tie.close
     (tie.spec
-    Inv-loop
-    μ-loop
-    loop-holds
-    mul-speed
-    shared-slice-read-speed
-    mul-mass
-    shared-slice-read-mass
-    shared-slice-read-is-kept
-    is-kept-requires
-    add-i
-    mul-kept-speeds
-    slice-write-kept-speeds
-    mul-kept-co2
-    slice-write-kept-co2
-    add-count
-    loop-less
-    loop-again
-    loop-less-2
-    loop-again-2
-    same-length
-    same-length-2
+    invariant_loop
+    decreases_loop
+    loop_holds
+    mul_speed
+    shared_slice_read_speed
+    mul_mass
+    shared_slice_read_mass
+    shared_slice_read_is_kept
+    is_kept_requires
+    add_i
+    mul_kept_speeds
+    slice_write_kept_speeds
+    mul_kept_co2
+    slice_write_kept_co2
+    add_count
+    loop_less
+    loop_again
+    loop_less_2
+    loop_again_2
+    same_length
+    same_length_2
     returns)

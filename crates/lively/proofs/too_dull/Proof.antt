@@ -1,29 +1,29 @@
 -- `lively::too_dull` meets its contract: its test is that of the definition. Assumes nothing.
-use borrow.Author.Needs.{needs}
-use Prim.Native.Nat.{_*_}
+use borrow.Author.Rules.{rules}
+use Prim.Native.Nat.{◌*◌}
 use mathlib.Core.Path.{refl}
 use native.Mathlib.Omega.{arith}
 use borrow.Author.Tests.{le-leb, lt-leb}
-use Rattle·lively·specs.specs.Lively.{tooDull}
-use Rattle·lively·proofs.proofs.too_dull.Statement.{statement}
-use Rattle·lively·proofs.proofs.too_dull.Tie as tie
+use Rattle.lively.specs.Lively.{too_dull}
+use Rattle.lively.proofs.too_dull.Statement.{statement}
+use Rattle.lively.proofs.too_dull.Tie as tie
 
-mul-if1 : tie.Need-mul-if1
-mul-if1 c = search needs
+mul_if1 : tie.Need-overflow-mul-if1
+mul_if1 c = search rules
 
-below-curve-requires : tie.Need-below-curve-requires
-below-curve-requires c κs = search needs
+below-curve_requires : tie.Need-below-curve-requires
+below-curve_requires c κs = search rules
 
 returns : tie.Need-returns
-unfolding tooDull
-returns c = rw (le-leb (c .before .before .args .s) (9_405 * c .before .before .args .n) (omega arith)) (c .below-curve .ensures)
+unfolding too_dull
+returns c = rw (le-leb c.before.before.args.s (9_405 * c.before.before.args.n) (omega arith)) c.below_curve.ensures
 
-mul-result : tie.Need-mul-result
-mul-result c = search needs
+mul_result : tie.Need-overflow-mul-result
+mul_result c = search rules
 
-returns-2 : tie.Need-returns-2
-unfolding tooDull
-returns-2 c = rw (lt-leb (c .before .args .s) (9_405 * c .before .args .n) (omega arith)) refl
+returns_2 : tie.Need-returns-2
+unfolding too_dull
+returns_2 c = rw (lt-leb c.before.args.s (9_405 * c.before.args.n) (omega arith)) refl
 
-pub too-dull-spec : {M : Type 1} → statement M
-too-dull-spec = tie.close (tie.spec mul-if1 below-curve-requires returns mul-result returns-2)
+pub too_dull_spec : {M : Type 1} → statement M
+too_dull_spec = tie.close (tie.spec mul_if1 below-curve_requires returns mul_result returns_2)

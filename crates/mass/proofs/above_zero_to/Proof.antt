@@ -1,13 +1,13 @@
 -- `mass::above_zero_to` meets its contract: its two comparisons are the definition's, and its 0.0 is the f64 zero. Assumes nothing.
 use mathlib.Core.Path.{refl}
-use lib.Ieee.{ofBits, ofInt}
-use Rattle·mass·specs.specs.Mass.{aboveZeroTo}
-use Rattle·mass·proofs.proofs.above_zero_to.Statement.{statement}
-use Rattle·mass·proofs.proofs.above_zero_to.Tie as tie
+use lib.Ieee.{of_bits, of_int}
+use Rattle.mass.specs.Mass.{above_zero_to}
+use Rattle.mass.proofs.above_zero_to.Statement.{statement}
+use Rattle.mass.proofs.above_zero_to.Tie as tie
 
 returns : tie.Need-returns
-unfolding aboveZeroTo ofBits ofInt
+unfolding above_zero_to of_bits of_int
 returns c = refl
 
-pub above-zero-to-spec : {M : Type 1} → statement M
-above-zero-to-spec = tie.close (tie.spec returns)
+pub above_zero_to_spec : {M : Type 1} → statement M
+above_zero_to_spec = tie.close (tie.spec returns)

@@ -1,23 +1,23 @@
 -- `mass::setting_in_range` meets its contract: it is the conjunction of the tests that it calls; its 0.01 is the f64 nearest to 1/100. Assumes nothing.
-use lib.Ieee.{ofBits, ofInt, round}
-use borrow.Author.Needs.{needs}
-use Rattle·mass·specs.specs.Mass.{settingInRange}
-use Rattle·mass·proofs.proofs.setting_in_range.Statement.{statement}
-use Rattle·mass·proofs.proofs.setting_in_range.Tie as tie
+use lib.Ieee.{of_bits, of_int, round}
+use borrow.Author.Rules.{rules}
+use Rattle.mass.specs.Mass.{setting_in_range}
+use Rattle.mass.proofs.setting_in_range.Statement.{statement}
+use Rattle.mass.proofs.setting_in_range.Tie as tie
 
-above-zero-to-requires : tie.Need-above-zero-to-requires
-above-zero-to-requires c κs = search needs
+above_zero_to_requires : tie.Need-above-zero-to-requires
+above_zero_to_requires c κs = search rules
 
-above-zero-to-requires-2 : tie.Need-above-zero-to-requires-2
-above-zero-to-requires-2 c κs = search needs
+above_zero_to_requires_2 : tie.Need-above-zero-to-requires-2
+above_zero_to_requires_2 c κs = search rules
 
-zero-to-requires : tie.Need-zero-to-requires
-zero-to-requires c κs = search needs
+zero_to_requires : tie.Need-zero-to-requires
+zero_to_requires c κs = search rules
 
 returns : tie.Need-returns
-unfolding settingInRange ofBits ofInt round
-returns c = rw (c .before .before .above-zero-to .ensures, c .before .above-zero-to2 .ensures, c .zero-to .ensures)
+unfolding setting_in_range of_bits of_int round
+returns c = rw (c.before.before.above_zero_to.ensures, c.before.above_zero_to2.ensures, c.zero_to.ensures)
 
-pub setting-in-range-spec : {M : Type 1} → statement M
-setting-in-range-spec =
-    tie.close (tie.spec above-zero-to-requires above-zero-to-requires-2 zero-to-requires returns)
+pub setting_in_range_spec : {M : Type 1} → statement M
+setting_in_range_spec =
+    tie.close (tie.spec above_zero_to_requires above_zero_to_requires_2 zero_to_requires returns)

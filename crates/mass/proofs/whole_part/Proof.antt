@@ -3,35 +3,35 @@
 use mathlib.Core.Path.{sym}
 use native.Mathlib.Omega.{arith}
 use lib.Dec.{lit≤}
-use lib.Ieee.{ofBits, toBits, binary64}
-use Rattle·mass·specs.specs.Mass.{wholePart}
-use Rattle·mass·proofs.proofs.Ranges.{bounded-no-nan}
-use Rattle·mass·proofs.proofs.WholePart.{WholeFromBits, under-one, from-one}
-use Rattle·mass·proofs.proofs.whole_part.Statement.{statement}
-use Rattle·mass·proofs.proofs.whole_part.Tie as tie
+use lib.Ieee.{of_bits, to_bits, binary64}
+use Rattle.mass.specs.Mass.{whole_part}
+use Rattle.mass.proofs.Ranges.{bounded_no_nan}
+use Rattle.mass.proofs.WholePart.{WholeFromBits, under_one, from_one}
+use Rattle.mass.proofs.whole_part.Statement.{statement}
+use Rattle.mass.proofs.whole_part.Tie as tie
 
 returns : tie.Need-returns
-unfolding ofBits
-returns c = sym (under-one (c .before .pre) (c .if1 .taken))
+unfolding of_bits
+returns c = sym (under_one c.before.requires c.if1.true)
 
-bits-of : (c : tie.Else1) → WholeFromBits (toBits binary64 (c .before .args .x)) (wholePart (c .before .args .x))
-unfolding ofBits
-bits-of c = from-one (c .before .pre) (lit≤ tt) (c .if1 .left)
+bits_of : (c : tie.Else1) → WholeFromBits (to_bits binary64 c.before.args.x) (whole_part c.before.args.x)
+unfolding of_bits
+bits_of c = from_one c.before.requires (lit≤ tt) c.if1.false
 
-float-to-bits-bits : tie.Need-float-to-bits-bits
-float-to-bits-bits c = bounded-no-nan (c .before .pre)
+float_to_bits_bits : tie.Need-float-to-bits-bits
+float_to_bits_bits c = bounded_no_nan c.before.requires
 
-add-digits : tie.Need-add-digits
-add-digits c = omega arith
+add_digits : tie.Need-overflow-add-digits
+add_digits c = omega arith
 
-sub-result : tie.Need-sub-result
-sub-result c = bits-of c .least
+sub_result : tie.Need-overflow-sub-result
+sub_result c = (bits_of c).least
 
-shr-result : tie.Need-shr-result
-shr-result c = bits-of c .most
+shr_result : tie.Need-overflow-shr-result
+shr_result c = (bits_of c).most
 
-returns-2 : tie.Need-returns-2
-returns-2 c = bits-of c .whole
+returns_2 : tie.Need-returns-2
+returns_2 c = (bits_of c).whole
 
-pub whole-part-spec : {M : Type 1} → statement M
-whole-part-spec = tie.close (tie.spec returns float-to-bits-bits add-digits sub-result shr-result returns-2)
+pub whole_part_spec : {M : Type 1} → statement M
+whole_part_spec = tie.close (tie.spec returns float_to_bits_bits add_digits sub_result shr_result returns_2)

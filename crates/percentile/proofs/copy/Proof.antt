@@ -1,69 +1,69 @@
 -- `percentile::copy` meets its contract: after i turns the lane begins with the first i values. Assumes nothing.
-use borrow.Author.Needs.{needs}
-use Prim.Native.Nat.{_-_, _≤_}
-use mathlib.Core.Path.{_≡_, refl, _∙_}
-use mathlib.Core.List.{_++_}
+use borrow.Author.Rules.{rules}
+use Prim.Native.Nat.{◌-◌, ◌≤◌}
+use mathlib.Core.Path.{◌≡◌, refl, ◌∙◌}
+use mathlib.Core.List.{◌++◌}
 use lib.ListN.{length, take, drop, length-set}
 use native.Mathlib.Omega.{arith}
-use Rattle·base.proofs.Store.{copy-next, copied}
-use Rattle·percentile·proofs.proofs.copy.Statement.{statement}
-use Rattle·percentile·proofs.proofs.copy.Tie as tie
+use Rattle.base.proofs.Store.{copy_next, copied}
+use Rattle.percentile.proofs.copy.Statement.{statement}
+use Rattle.percentile.proofs.copy.Tie as tie
 
-abbrev Inv-loop : tie.InvT-loop
-Inv-loop values lane₀ i₀ lane i = (i ≤ length values) × (lane ≡ take i values ++ drop i lane₀) × (length lane ≡ length lane₀)
+abbrev invariant_loop : tie.invariant-loop
+invariant_loop values lane₀ i₀ lane i = (i ≤ length values) × (lane ≡ take i values ++ drop i lane₀) × (length lane ≡ length lane₀)
 
-abbrev μ-loop : tie.MeasureT-loop
-μ-loop values lane₀ i₀ lane i = length values - i
+abbrev decreases_loop : tie.decreases-loop
+decreases_loop values lane₀ i₀ lane i = length values - i
 
-loop-holds : tie.Need-loop-holds Inv-loop μ-loop
-loop-holds c = (omega arith, refl, refl)
+loop_holds : tie.Need-loop-init invariant_loop decreases_loop
+loop_holds c = (omega arith, refl, refl)
 
-mul-lane : tie.Need-mul-lane Inv-loop μ-loop
-mul-lane c = search needs
+mul_lane : tie.Need-overflow-mul-lane invariant_loop decreases_loop
+mul_lane c = search rules
 
-shared-slice-read-lane : tie.Need-shared-slice-read-lane Inv-loop μ-loop
-shared-slice-read-lane c = search needs
+shared_slice_read_lane : tie.Need-shared-slice-read-lane invariant_loop decreases_loop
+shared_slice_read_lane c = search rules
 
-mul-lane-2 : tie.Need-mul-lane-2 Inv-loop μ-loop
-mul-lane-2 c = search needs
+mul_lane_2 : tie.Need-overflow-mul-lane-2 invariant_loop decreases_loop
+mul_lane_2 c = search rules
 
-slice-write-lane : tie.Need-slice-write-lane Inv-loop μ-loop
-slice-write-lane c = search needs
+slice_write_lane : tie.Need-slice-write-lane invariant_loop decreases_loop
+slice_write_lane c = search rules
 
-add-i : tie.Need-add-i Inv-loop μ-loop
-add-i c = search needs
+add_i : tie.Need-overflow-add-i invariant_loop decreases_loop
+add_i c = search rules
 
-loop-less : tie.Need-loop-less Inv-loop μ-loop
-loop-less c = search needs
+loop_less : tie.Need-loop-smaller invariant_loop decreases_loop
+loop_less c = search rules
 
-loop-again : tie.Need-loop-again Inv-loop μ-loop
-loop-again c =
-    let a = c .before .before .before .args in
-    let l = c .before .before .loop in
-    (omega arith, rw (l .inv .1) (copy-next (a .values .now) (a .lane .now) (l .i) (omega arith) (omega arith)), length-set (l .lane) (l .i) _ ∙ l .inv .2)
+loop_again : tie.Need-loop-preserved invariant_loop decreases_loop
+loop_again c =
+    let a = c.before.before.before.args in
+    let l = c.before.before.loop in
+    (omega arith, rw l.invariant.1 (copy_next a.values.now a.lane.now l.i (omega arith) (omega arith)), length-set l.lane l.i _ ∙ l.invariant.2)
 
-same-length : tie.Need-same-length Inv-loop μ-loop
-same-length c = search needs
+same_length : tie.Need-same-length invariant_loop decreases_loop
+same_length c = search rules
 
-returns : tie.Need-returns Inv-loop μ-loop
+returns : tie.Need-returns invariant_loop decreases_loop
 returns c =
-    let a = c .before .before .args in
-    let l = c .before .loop in
-    l .inv .1 ∙ copied (a .values .now) (a .lane .now) (l .i) (omega arith)
+    let a = c.before.before.args in
+    let l = c.before.loop in
+    l.invariant.1 ∙ copied a.values.now a.lane.now l.i (omega arith)
 
-pub copy-spec : {M : Type 1} → statement M
-copy-spec =
+pub copy_spec : {M : Type 1} → statement M
+copy_spec =
     tie.close
     (tie.spec
-    Inv-loop
-    μ-loop
-    loop-holds
-    mul-lane
-    shared-slice-read-lane
-    mul-lane-2
-    slice-write-lane
-    add-i
-    loop-less
-    loop-again
-    same-length
+    invariant_loop
+    decreases_loop
+    loop_holds
+    mul_lane
+    shared_slice_read_lane
+    mul_lane_2
+    slice_write_lane
+    add_i
+    loop_less
+    loop_again
+    same_length
     returns)

@@ -1,65 +1,65 @@
 -- `percentile::first_bad` meets its contract: each value before i is good, and the one that it stops at is not, or is the end.
 -- Assumes nothing.
-use borrow.Author.Needs.{needs}
-use Prim.Native.Nat.{ℕ, _-_, _≤_, _<_}
-use mathlib.Core.Path.{_≡_, sym}
+use borrow.Author.Rules.{rules}
+use Prim.Native.Nat.{ℕ, ◌-◌, ◌≤◌, ◌<◌}
+use mathlib.Core.Path.{◌≡◌, sym}
 use mathlib.Core.Bool.{true}
-use lib.ListN.{length, getD}
-use borrow.Author.Count.{below-none, below-more}
+use lib.ListN.{length, get_or}
+use borrow.Author.Count.{below_none, below_more}
 use borrow.Author.Tests.{le-leb, lt-leb}
 use native.Mathlib.Omega.{arith}
-use Rattle·base.proofs.Search.{stops-at, comes-to}
-use Rattle·percentile·specs.specs.Percentile.{productInRange, firstBadProduct}
-use Rattle·percentile·proofs.proofs.first_bad.Statement.{statement}
-use Rattle·percentile·proofs.proofs.first_bad.Tie as tie
+use Rattle.base.proofs.Search.{stops_at, comes_to}
+use Rattle.percentile.specs.Percentile.{product_in_range, first_bad_product}
+use Rattle.percentile.proofs.first_bad.Statement.{statement}
+use Rattle.percentile.proofs.first_bad.Tie as tie
 
-abbrev Inv-loop : tie.InvT-loop
-Inv-loop values i₀ i = (i ≤ length values) × ((k : ℕ) → k < i → productInRange (getD values k 0) ≡ true)
+abbrev invariant_loop : tie.invariant-loop
+invariant_loop values i₀ i = (i ≤ length values) × ((k : ℕ) → k < i → product_in_range (get_or values k 0) ≡ true)
 
-abbrev μ-loop : tie.MeasureT-loop
-μ-loop values i₀ i = length values - i
+abbrev decreases_loop : tie.decreases-loop
+decreases_loop values i₀ i = length values - i
 
-loop-holds : tie.Need-loop-holds Inv-loop μ-loop
-loop-holds c = (omega arith, below-none _)
+loop_holds : tie.Need-loop-init invariant_loop decreases_loop
+loop_holds c = (omega arith, below_none _)
 
-mul-if1 : tie.Need-mul-if1 Inv-loop μ-loop
-mul-if1 c = search needs
+mul_if1 : tie.Need-overflow-mul-if1 invariant_loop decreases_loop
+mul_if1 c = search rules
 
-shared-slice-read-if1 : tie.Need-shared-slice-read-if1 Inv-loop μ-loop
-shared-slice-read-if1 c = search needs
+shared_slice_read_if1 : tie.Need-shared-slice-read-if1 invariant_loop decreases_loop
+shared_slice_read_if1 c = search rules
 
-returns : tie.Need-returns Inv-loop μ-loop
-unfolding firstBadProduct
+returns : tie.Need-returns invariant_loop decreases_loop
+unfolding first_bad_product
 returns c =
-    let l = c .before .before .before .loop in
-    sym (stops-at _ _ (l .i) (omega arith) (l .inv .1) (lt-leb _ _ (c .if1 .taken)))
+    let l = c.before.before.before.loop in
+    sym (stops_at _ _ l.i (omega arith) l.invariant.1 (lt-leb _ _ c.if1.true))
 
-add-i : tie.Need-add-i Inv-loop μ-loop
-add-i c = search needs
+add_i : tie.Need-overflow-add-i invariant_loop decreases_loop
+add_i c = search rules
 
-loop-less : tie.Need-loop-less Inv-loop μ-loop
-loop-less c = search needs
+loop_less : tie.Need-loop-smaller invariant_loop decreases_loop
+loop_less c = search rules
 
-loop-again : tie.Need-loop-again Inv-loop μ-loop
-loop-again c =
-    let l = c .before .before .before .loop in
-    (omega arith, below-more _ _ (l .inv .1) (le-leb _ _ (c .if1 .left)))
+loop_again : tie.Need-loop-preserved invariant_loop decreases_loop
+loop_again c =
+    let l = c.before.before.before.loop in
+    (omega arith, below_more _ _ l.invariant.1 (le-leb _ _ c.if1.false))
 
-returns-2 : tie.Need-returns-2 Inv-loop μ-loop
-unfolding firstBadProduct
-returns-2 c = sym (comes-to _ _ (c .before .loop .i) (omega arith) (omega arith) (c .before .loop .inv .1))
+returns_2 : tie.Need-returns-2 invariant_loop decreases_loop
+unfolding first_bad_product
+returns_2 c = sym (comes_to _ _ c.before.loop.i (omega arith) (omega arith) c.before.loop.invariant.1)
 
-pub first-bad-spec : {M : Type 1} → statement M
-first-bad-spec =
+pub first_bad_spec : {M : Type 1} → statement M
+first_bad_spec =
     tie.close
     (tie.spec
-    Inv-loop
-    μ-loop
-    loop-holds
-    mul-if1
-    shared-slice-read-if1
+    invariant_loop
+    decreases_loop
+    loop_holds
+    mul_if1
+    shared_slice_read_if1
     returns
-    add-i
-    loop-less
-    loop-again
-    returns-2)
+    add_i
+    loop_less
+    loop_again
+    returns_2)

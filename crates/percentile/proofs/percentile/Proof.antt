@@ -1,60 +1,60 @@
 -- `percentile::percentile` meets its contract: a refusal touches nothing, and accepted values are copied to the front and ranked there.
 -- Assumes nothing.
-use borrow.Author.Needs.{needs}
-use mathlib.Core.Path.{_≡_, sym, _∙_, ap, ap₂}
-use mathlib.Core.List.{List, _++_}
+use borrow.Author.Rules.{rules}
+use mathlib.Core.Path.{◌≡◌, sym, ◌∙◌, ap, ap₂}
+use mathlib.Core.List.{List, ◌++◌}
 use lib.ListN.{length}
 use native.Mathlib.Omega.{arith}
-use Rattle·order.specs.Sort.{sort}
-use Rattle·percentile·specs.specs.declared.Answer.the-variants.{Q}
-use Rattle·percentile·specs.specs.Percentile.{faultOf, qOrZero}
-use Rattle·percentile·proofs.proofs.Refusals.{Accepted, accepted-facts, answer-refused, lane-refused, answer-accepted, lane-accepted}
-use Rattle·percentile·proofs.proofs.Front.{enough, filled-length, filled-front, filled-rest, ranked-front}
-use Rattle·percentile·proofs.proofs.percentile.Statement.{statement}
-use Rattle·percentile·proofs.proofs.percentile.Tie as tie
+use Rattle.order.specs.Sort.{sort}
+use Rattle.percentile.specs.declared.Answer.TheVariants.{Q}
+use Rattle.percentile.specs.Percentile.{fault_of, q_or_zero}
+use Rattle.percentile.proofs.Refusals.{Accepted, accepted_facts, answer_refused, lane_refused, answer_accepted, lane_accepted}
+use Rattle.percentile.proofs.Front.{enough, filled_length, filled_front, filled_rest, ranked_front}
+use Rattle.percentile.proofs.percentile.Statement.{statement}
+use Rattle.percentile.proofs.percentile.Tie as tie
 
-number : (c : tie.Else1) → faultOf (c .before .before .before .before .args .values .now) (length (c .before .before .before .before .args .ranks .now)) .number ≡ 0
-number c = sym (ap (λ f. f .number) (c .before .fault-of .ensures)) ∙ c .if1 .left
+number : (c : tie.Else1) → (fault_of c.before.before.before.before.args.values.now (length c.before.before.before.before.args.ranks.now)).number ≡ 0
+number c = sym (ap (λ f. f.number) c.before.fault_of.ensures) ∙ c.if1.false
 
-known : (c : tie.Else1) → Accepted (c .before .before .before .before .args .values .now) (length (c .before .before .before .before .args .ranks .now))
-known c = accepted-facts _ _ (number c)
+known : (c : tie.Else1) → Accepted c.before.before.before.before.args.values.now (length c.before.before.before.before.args.ranks.now)
+known c = accepted_facts _ _ (number c)
 
-not-number : (c : tie.Then1) → faultOf (c .before .before .before .before .args .values .now) (length (c .before .before .before .before .args .ranks .now)) .number ≡ 0 → ⊥
-not-number c e = c .if1 .taken (ap (λ f. f .number) (c .before .fault-of .ensures) ∙ e)
+not-number : (c : tie.Then1) → (fault_of c.before.before.before.before.args.values.now (length c.before.before.before.before.args.ranks.now)).number ≡ 0 → ⊥
+not-number c e = c.if1.true (ap (λ f. f.number) c.before.fault_of.ensures ∙ e)
 
-fault-of-requires : tie.Need-fault-of-requires
-fault-of-requires c κs = tt
+fault_of_requires : tie.Need-fault-of-requires
+fault_of_requires c κs = tt
 
 returns : tie.Need-returns
 returns c =
-    let a = c .before .before .before .before .args in
-    (rw (c .before .fault-of .ensures) (sym (answer-refused (a .values .now) (a .ranks .now) (not-number c))), sym (lane-refused (a .values .now) (a .ranks .now) (not-number c)))
+    let a = c.before.before.before.before.args in
+    (rw c.before.fault_of.ensures (sym (answer_refused a.values.now a.ranks.now (not-number c))), sym (lane_refused a.values.now a.ranks.now (not-number c)))
 
-copy-requires : tie.Need-copy-requires
-copy-requires c κs = known (c .before) .room
+copy_requires : tie.Need-copy-requires
+copy_requires c κs = (known c.before).room
 
-rank-first-requires : tie.Need-rank-first-requires
-rank-first-requires c κs =
-    let k = known (c .before .before .before .before .before) in
-    let a = c .before .before .before .before .before .before .before .before .before .args in
-    (omega (arith, filled-length (a .values .now) (a .ranks .now) (k .room) (c .before .before .before .copy .ensures)), k .few)
+rank_first_requires : tie.Need-rank-first-requires
+rank_first_requires c κs =
+    let k = known c.before.before.before.before.before in
+    let a = c.before.before.before.before.before.before.before.before.before.args in
+    (omega (arith, filled_length a.values.now a.ranks.now k.room c.before.before.before.copy.ensures), k.few)
 
-same-length : tie.Need-same-length
-same-length c = search needs
+same_length : tie.Need-same-length
+same_length c = search rules
 
-returns-2 : tie.Need-returns-2
-returns-2 c =
-    let k = known (c .before .before .before .before .before .before .before .before) in
-    let s = c .before .before .before .before .before .before .before .before .before .before .before .before in
-    let a = s .args in
-    let is = c .before .before .before .before .before .before .copy .ensures in
-    let front = filled-front (a .values .now) (a .ranks .now) (k .room) is in
-    let rest = filled-rest (a .values .now) (a .ranks .now) (k .room) is in
-    let q = c .before .before .rank-first .ensures .0 ∙ ap qOrZero front ∙ enough (a .values .now) (k .enough) in
-    let lane = c .before .before .rank-first .ensures .1 ∙ ap₂ (λ (f r : List _). sort f ++ r) front rest ∙ ranked-front (a .values .now) (a .ranks .now) in
-    (ap Q q ∙ sym (answer-accepted (a .values .now) (a .ranks .now) (number (c .before .before .before .before .before .before .before .before))), lane ∙ sym (lane-accepted (a .values .now) (a .ranks .now) (number (c .before .before .before .before .before .before .before .before))))
+returns_2 : tie.Need-returns-2
+returns_2 c =
+    let k = known c.before.before.before.before.before.before.before.before in
+    let s = c.before.before.before.before.before.before.before.before.before.before.before.before in
+    let a = s.args in
+    let is = c.before.before.before.before.before.before.copy.ensures in
+    let front = filled_front a.values.now a.ranks.now k.room is in
+    let rest = filled_rest a.values.now a.ranks.now k.room is in
+    let q = c.before.before.rank_first.ensures.0 ∙ ap q_or_zero front ∙ enough a.values.now k.enough in
+    let lane = c.before.before.rank_first.ensures.1 ∙ ap₂ (λ (f r : List _). sort f ++ r) front rest ∙ ranked_front a.values.now a.ranks.now in
+    (ap Q q ∙ sym (answer_accepted a.values.now a.ranks.now (number c.before.before.before.before.before.before.before.before)), lane ∙ sym (lane_accepted a.values.now a.ranks.now (number c.before.before.before.before.before.before.before.before)))
 
-pub percentile-spec : {M : Type 1} → statement M
-percentile-spec =
+pub percentile_spec : {M : Type 1} → statement M
+percentile_spec =
     tie.close
-    (tie.spec fault-of-requires returns copy-requires rank-first-requires same-length returns-2)
+    (tie.spec fault_of_requires returns copy_requires rank_first_requires same_length returns_2)

@@ -1,172 +1,172 @@
 -- `printed::judge_first` meets its contract: the parts that it lends are the first seconds of each lane. Assumes nothing.
-use borrow.Author.Needs.{needs}
-use mathlib.Core.Path.{_≡_, subst}
+use borrow.Author.Rules.{rules}
+use mathlib.Core.Path.{◌≡◌, subst}
 use lib.ListN.{take}
-use Rattle·base.specs.declared.Plan.{Plan}
-use Rattle·second.specs.Lanes.{Lanes, lanesOf}
-use Rattle·second.proofs.EachLane.{EachLane, same-lanes}
-use Rattle·trip.specs.declared.Evaluated.{Evaluated}
-use Rattle·trip.specs.Trip.{answerOf}
-use Rattle·trip.specs.Lent.{Lent, lentOf, roomsIn, lentLeft}
-use Rattle·printed·specs.specs.Printed.{firstSeconds}
-use Rattle·printed·proofs.proofs.Fronts.{first-part, part-long}
-use Rattle·printed·proofs.proofs.judge_first.Statement.{statement}
-use Rattle·printed·proofs.proofs.judge_first.Tie as tie
+use Rattle.base.specs.declared.Plan.{Plan}
+use Rattle.second.specs.Lanes.{Lanes, lanes_of}
+use Rattle.second.proofs.EachLane.{EachLane, same_lanes}
+use Rattle.trip.specs.declared.Evaluated.{Evaluated}
+use Rattle.trip.specs.Trip.{answer_of}
+use Rattle.trip.specs.Lent.{Lent, lent_of, rooms_in, lent_left}
+use Rattle.printed.specs.Printed.{first_seconds}
+use Rattle.printed.proofs.Fronts.{first_part, part_long}
+use Rattle.printed.proofs.judge_first.Statement.{statement}
+use Rattle.printed.proofs.judge_first.Tie as tie
 
 -- ---- places of the code, seen from later ones: only these lines count what stands between
 -- the call of the evaluation, and its first argument
 abbrev call : tie.After-slice-known8 → tie.After-evaluate
-call c = c .before .before .before .before .before .before .before .before
+call c = c.before.before.before.before.before.before.before.before
 
 abbrev lending : tie.After-evaluate → tie.After-evaluate-arg
-lending c = c .before .before .before .before .before .before .before .before .before .before .before
+lending c = c.before.before.before.before.before.before.before.before.before.before.before
 
 -- how many places are lent of each lane, from the last one to the first
-abbrev ofMarks : tie.After-evaluate-arg → tie.After-least7
-ofMarks c = c .before
+abbrev of_marks : tie.After-evaluate-arg → tie.After-least7
+of_marks c = c.before
 
-abbrev ofCounts : tie.After-evaluate-arg → tie.After-least6
-ofCounts c = ofMarks c .before
+abbrev of_counts : tie.After-evaluate-arg → tie.After-least6
+of_counts c = (of_marks c).before
 
-abbrev ofNox : tie.After-evaluate-arg → tie.After-least5
-ofNox c = ofCounts c .before
+abbrev of_nox : tie.After-evaluate-arg → tie.After-least5
+of_nox c = (of_counts c).before
 
-abbrev ofCo2 : tie.After-evaluate-arg → tie.After-least4
-ofCo2 c = ofNox c .before
+abbrev of_co2 : tie.After-evaluate-arg → tie.After-least4
+of_co2 c = (of_nox c).before
 
-abbrev ofAltitudes : tie.After-evaluate-arg → tie.After-least3
-ofAltitudes c = ofCo2 c .before
+abbrev of_altitudes : tie.After-evaluate-arg → tie.After-least3
+of_altitudes c = (of_co2 c).before
 
-abbrev ofSpeeds : tie.After-evaluate-arg → tie.After-least2
-ofSpeeds c = ofAltitudes c .before
+abbrev of_speeds : tie.After-evaluate-arg → tie.After-least2
+of_speeds c = (of_altitudes c).before
 
-abbrev ofStates : tie.After-evaluate-arg → tie.After-least
-ofStates c = ofSpeeds c .before
+abbrev of_states : tie.After-evaluate-arg → tie.After-least
+of_states c = (of_speeds c).before
 
 -- where the call began
 abbrev began : tie.After-evaluate-arg → tie.Start
-began c = ofStates c .before .before .before .before .before .before .before .before .before .before .before
+began c = (of_states c).before.before.before.before.before.before.before.before.before.before.before
 
 -- ---- what they know
 -- the lanes, and the parts of them that are lent
-abbrev lanesAll : tie.After-evaluate-arg → Lanes
-lanesAll c = let a = began c .args in lanesOf (a .states .now) (a .speeds .now) (a .altitudes .now) (a .co2 .now) (a .nox .now) (a .counts .now) (a .marks .now)
+abbrev lanes_all : tie.After-evaluate-arg → Lanes
+lanes_all c = let a = (began c).args in lanes_of a.states.now a.speeds.now a.altitudes.now a.co2.now a.nox.now a.counts.now a.marks.now
 
-abbrev lanesLent : tie.After-evaluate-arg → Lanes
-lanesLent c =
+abbrev lanes_lent : tie.After-evaluate-arg → Lanes
+lanes_lent c =
     record {
-      states = take (ofStates c .least .result) (lanesAll c .states);
-      speeds = take (ofSpeeds c .least2 .result) (lanesAll c .speeds);
-      altitudes = take (ofAltitudes c .least3 .result) (lanesAll c .altitudes);
-      co2 = take (ofCo2 c .least4 .result) (lanesAll c .co2);
-      nox = take (ofNox c .least5 .result) (lanesAll c .nox);
-      counts = take (ofCounts c .least6 .result) (lanesAll c .counts);
-      marks = take (ofMarks c .least7 .result) (lanesAll c .marks);
+      states = take (of_states c).least.result (lanes_all c).states;
+      speeds = take (of_speeds c).least2.result (lanes_all c).speeds;
+      altitudes = take (of_altitudes c).least3.result (lanes_all c).altitudes;
+      co2 = take (of_co2 c).least4.result (lanes_all c).co2;
+      nox = take (of_nox c).least5.result (lanes_all c).nox;
+      counts = take (of_counts c).least6.result (lanes_all c).counts;
+      marks = take (of_marks c).least7.result (lanes_all c).marks;
     }
 
 -- these are the first seconds
-first-seconds : (c : tie.After-evaluate-arg) → EachLane (λ A value a b. a ≡ b) (lanesLent c) (firstSeconds (began c .args .seconds) (lanesAll c))
-first-seconds c =
+first_seconds_lem : (c : tie.After-evaluate-arg) → EachLane (λ A value a b. a ≡ b) (lanes_lent c) (first_seconds (began c).args.seconds (lanes_all c))
+first_seconds_lem c =
     record {
-      states = first-part _ _ (ofStates c .least .ensures);
-      speeds = first-part _ _ (ofSpeeds c .least2 .ensures);
-      altitudes = first-part _ _ (ofAltitudes c .least3 .ensures);
-      co2 = first-part _ _ (ofCo2 c .least4 .ensures);
-      nox = first-part _ _ (ofNox c .least5 .ensures);
-      counts = first-part _ _ (ofCounts c .least6 .ensures);
-      marks = first-part _ _ (ofMarks c .least7 .ensures);
+      states = first_part _ _ (of_states c).least.ensures;
+      speeds = first_part _ _ (of_speeds c).least2.ensures;
+      altitudes = first_part _ _ (of_altitudes c).least3.ensures;
+      co2 = first_part _ _ (of_co2 c).least4.ensures;
+      nox = first_part _ _ (of_nox c).least5.ensures;
+      counts = first_part _ _ (of_counts c).least6.ensures;
+      marks = first_part _ _ (of_marks c).least7.ensures;
     }
 
 -- what the evaluation of a trip promises of its answer and of the lent lanes
 abbrev Left : Plan → Lent → Evaluated → Lent → Lanes → Type 0
-Left plan lent answer after trip = (answer ≡ answerOf plan trip (roomsIn lent)) × (after ≡ lentLeft plan trip lent)
+Left plan lent answer after trip = (answer ≡ answer_of plan trip (rooms_in lent)) × (after ≡ lent_left plan trip lent)
 
-least-requires : tie.Need-least-requires
-least-requires c κs = search needs
+least_requires : tie.Need-least-requires
+least_requires c κs = search rules
 
-least-requires-2 : tie.Need-least-requires-2
-least-requires-2 c κs = search needs
+least_requires_2 : tie.Need-least-requires-2
+least_requires_2 c κs = search rules
 
-least-requires-3 : tie.Need-least-requires-3
-least-requires-3 c κs = search needs
+least_requires_3 : tie.Need-least-requires-3
+least_requires_3 c κs = search rules
 
-least-requires-4 : tie.Need-least-requires-4
-least-requires-4 c κs = search needs
+least_requires_4 : tie.Need-least-requires-4
+least_requires_4 c κs = search rules
 
-least-requires-5 : tie.Need-least-requires-5
-least-requires-5 c κs = search needs
+least_requires_5 : tie.Need-least-requires-5
+least_requires_5 c κs = search rules
 
-least-requires-6 : tie.Need-least-requires-6
-least-requires-6 c κs = search needs
+least_requires_6 : tie.Need-least-requires-6
+least_requires_6 c κs = search rules
 
-least-requires-7 : tie.Need-least-requires-7
-least-requires-7 c κs = search needs
+least_requires_7 : tie.Need-least-requires-7
+least_requires_7 c κs = search rules
 
-slice-aggregate-evaluate : tie.Need-slice-aggregate-evaluate
-slice-aggregate-evaluate c = part-long _ _ (ofStates c .least .ensures)
+slice_aggregate_evaluate : tie.Need-slice-aggregate-evaluate
+slice_aggregate_evaluate c = part_long _ _ (of_states c).least.ensures
 
-slice-aggregate-evaluate-2 : tie.Need-slice-aggregate-evaluate-2
-slice-aggregate-evaluate-2 c = part-long _ _ (ofSpeeds (c .before) .least2 .ensures)
+slice_aggregate_evaluate_2 : tie.Need-slice-aggregate-evaluate-2
+slice_aggregate_evaluate_2 c = part_long _ _ (of_speeds c.before).least2.ensures
 
-slice-aggregate-evaluate-3 : tie.Need-slice-aggregate-evaluate-3
-slice-aggregate-evaluate-3 c = part-long _ _ (ofAltitudes (c .before .before) .least3 .ensures)
+slice_aggregate_evaluate_3 : tie.Need-slice-aggregate-evaluate-3
+slice_aggregate_evaluate_3 c = part_long _ _ (of_altitudes c.before.before).least3.ensures
 
-slice-aggregate-evaluate-4 : tie.Need-slice-aggregate-evaluate-4
-slice-aggregate-evaluate-4 c = part-long _ _ (ofCo2 (c .before .before .before) .least4 .ensures)
+slice_aggregate_evaluate_4 : tie.Need-slice-aggregate-evaluate-4
+slice_aggregate_evaluate_4 c = part_long _ _ (of_co2 c.before.before.before).least4.ensures
 
-slice-aggregate-evaluate-5 : tie.Need-slice-aggregate-evaluate-5
-slice-aggregate-evaluate-5 c = part-long _ _ (ofNox (c .before .before .before .before) .least5 .ensures)
+slice_aggregate_evaluate_5 : tie.Need-slice-aggregate-evaluate-5
+slice_aggregate_evaluate_5 c = part_long _ _ (of_nox c.before.before.before.before).least5.ensures
 
-slice-aggregate-evaluate-6 : tie.Need-slice-aggregate-evaluate-6
-slice-aggregate-evaluate-6 c = part-long _ _ (ofCounts (c .before .before .before .before .before) .least6 .ensures)
+slice_aggregate_evaluate_6 : tie.Need-slice-aggregate-evaluate-6
+slice_aggregate_evaluate_6 c = part_long _ _ (of_counts c.before.before.before.before.before).least6.ensures
 
-slice-aggregate-evaluate-7 : tie.Need-slice-aggregate-evaluate-7
-slice-aggregate-evaluate-7 c = part-long _ _ (ofMarks (c .before .before .before .before .before .before) .least7 .ensures)
+slice_aggregate_evaluate_7 : tie.Need-slice-aggregate-evaluate-7
+slice_aggregate_evaluate_7 c = part_long _ _ (of_marks c.before.before.before.before.before.before).least7.ensures
 
-evaluate-requires : tie.Need-evaluate-requires
-evaluate-requires c κs = search needs
+evaluate_requires : tie.Need-evaluate-requires
+evaluate_requires c κs = search rules
 
-same-length : tie.Need-same-length
-same-length c = search needs
+same_length : tie.Need-same-length
+same_length c = search rules
 
-same-length-2 : tie.Need-same-length-2
-same-length-2 c = search needs
+same_length_2 : tie.Need-same-length-2
+same_length_2 c = search rules
 
-same-length-3 : tie.Need-same-length-3
-same-length-3 c = search needs
+same_length_3 : tie.Need-same-length-3
+same_length_3 c = search rules
 
-same-length-4 : tie.Need-same-length-4
-same-length-4 c = search needs
+same_length_4 : tie.Need-same-length-4
+same_length_4 c = search rules
 
 returns : tie.Need-returns
 returns c =
-    let evaluate = call c .evaluate in
+    let evaluate = (call c).evaluate in
     let first = lending (call c) in
-    let a = began first .args in
-    let left = evaluate .last .1 .1 .1 .1 .1 .1 .1 .1 in
-    subst (Left (a .plan) (lentOf (a .kept-speeds .now) (a .kept-co2 .now) (a .ends .now) (a .ranks .now)) (evaluate .result) (lentOf (left .0) (left .1 .0) (left .1 .1 .0) (left .1 .1 .1 .0))) (same-lanes (first-seconds first)) (evaluate .ensures)
+    let a = (began first).args in
+    let left = evaluate.last.1.1.1.1.1.1.1.1 in
+    subst (Left a.plan (lent_of a.kept-speeds.now a.kept-co2.now a.ends.now a.ranks.now) evaluate.result (lent_of left.0 left.1.0 left.1.1.0 left.1.1.1.0)) (same_lanes (first_seconds_lem first)) evaluate.ensures
 
-pub judge-first-spec : {M : Type 1} → statement M
-judge-first-spec =
+pub judge_first_spec : {M : Type 1} → statement M
+judge_first_spec =
     tie.close
     (tie.spec
-    least-requires
-    least-requires-2
-    least-requires-3
-    least-requires-4
-    least-requires-5
-    least-requires-6
-    least-requires-7
-    slice-aggregate-evaluate
-    slice-aggregate-evaluate-2
-    slice-aggregate-evaluate-3
-    slice-aggregate-evaluate-4
-    slice-aggregate-evaluate-5
-    slice-aggregate-evaluate-6
-    slice-aggregate-evaluate-7
-    evaluate-requires
-    same-length
-    same-length-2
-    same-length-3
-    same-length-4
+    least_requires
+    least_requires_2
+    least_requires_3
+    least_requires_4
+    least_requires_5
+    least_requires_6
+    least_requires_7
+    slice_aggregate_evaluate
+    slice_aggregate_evaluate_2
+    slice_aggregate_evaluate_3
+    slice_aggregate_evaluate_4
+    slice_aggregate_evaluate_5
+    slice_aggregate_evaluate_6
+    slice_aggregate_evaluate_7
+    evaluate_requires
+    same_length
+    same_length_2
+    same_length_3
+    same_length_4
     returns)

@@ -1,60 +1,60 @@
 -- `printed::lines_of` meets its contract: it is the definition's record. Assumes nothing.
-use borrow.Author.Needs.{needs}
+use borrow.Author.Rules.{rules}
 use mathlib.Core.Path.{refl}
-use Rattle·printed·specs.specs.Printed.{linesOf}
-use Rattle·printed·proofs.proofs.lines_of.Statement.{statement}
-use Rattle·printed·proofs.proofs.lines_of.Tie as tie
+use Rattle.printed.specs.Printed.{lines_of}
+use Rattle.printed.proofs.lines_of.Statement.{statement}
+use Rattle.printed.proofs.lines_of.Tie as tie
 
-array-copy-out-urban : tie.Need-array-copy-out-urban
-array-copy-out-urban c = search needs
+array_copy_out_urban : tie.Need-array-copy-out-urban
+array_copy_out_urban c = search rules
 
-array-copy-out-rural : tie.Need-array-copy-out-rural
-array-copy-out-rural c = search needs
+array_copy_out_rural : tie.Need-array-copy-out-rural
+array_copy_out_rural c = search rules
 
-array-copy-out-motorway : tie.Need-array-copy-out-motorway
-array-copy-out-motorway c = search needs
+array_copy_out_motorway : tie.Need-array-copy-out-motorway
+array_copy_out_motorway c = search rules
 
-cast-t13 : tie.Need-cast-t13
-cast-t13 c = search needs
+cast_t13 : tie.Need-overflow-cast-t13
+cast_t13 c = search rules
 
-cast-t14 : tie.Need-cast-t14
-cast-t14 c = search needs
+cast_t14 : tie.Need-overflow-cast-t14
+cast_t14 c = search rules
 
-cast-t15 : tie.Need-cast-t15
-cast-t15 c = search needs
+cast_t15 : tie.Need-overflow-cast-t15
+cast_t15 c = search rules
 
-cast-t16 : tie.Need-cast-t16
-cast-t16 c = search needs
+cast_t16 : tie.Need-overflow-cast-t16
+cast_t16 c = search rules
 
-cast-t17 : tie.Need-cast-t17
-cast-t17 c = search needs
+cast_t17 : tie.Need-overflow-cast-t17
+cast_t17 c = search rules
 
-class-line-requires : tie.Need-class-line-requires
-class-line-requires c κs = search needs
+class-line_requires : tie.Need-class-line-requires
+class-line_requires c κs = search rules
 
-class-line-requires-2 : tie.Need-class-line-requires-2
-class-line-requires-2 c κs = search needs
+class-line_requires_2 : tie.Need-class-line-requires-2
+class-line_requires_2 c κs = search rules
 
-class-line-requires-3 : tie.Need-class-line-requires-3
-class-line-requires-3 c κs = search needs
+class-line_requires_3 : tie.Need-class-line-requires-3
+class-line_requires_3 c κs = search rules
 
 returns : tie.Need-returns
-unfolding linesOf
-returns c = rw (c .class-line3 .ensures, c .before .class-line2 .ensures, c .before .before .class-line .ensures) refl
+unfolding lines_of
+returns c = rw (c.class_line3.ensures, c.before.class_line2.ensures, c.before.before.class_line.ensures) refl
 
-pub lines-of-spec : {M : Type 1} → statement M
-lines-of-spec =
+pub lines_of_spec : {M : Type 1} → statement M
+lines_of_spec =
     tie.close
     (tie.spec
-    array-copy-out-urban
-    array-copy-out-rural
-    array-copy-out-motorway
-    cast-t13
-    cast-t14
-    cast-t15
-    cast-t16
-    cast-t17
-    class-line-requires
-    class-line-requires-2
-    class-line-requires-3
+    array_copy_out_urban
+    array_copy_out_rural
+    array_copy_out_motorway
+    cast_t13
+    cast_t14
+    cast_t15
+    cast_t16
+    cast_t17
+    class-line_requires
+    class-line_requires_2
+    class-line_requires_3
     returns)

@@ -1,40 +1,40 @@
 -- `reasons::dull_bin` meets its contract: its three tests are those of the definition. Assumes nothing.
-use borrow.Author.Needs.{needs}
+use borrow.Author.Rules.{rules}
 use mathlib.Core.Path.{refl}
-use Rattle·reasons·specs.specs.Reasons.{holds}
-use Rattle·reasons·proofs.proofs.dull_bin.Statement.{statement}
-use Rattle·reasons·proofs.proofs.dull_bin.Tie as tie
+use Rattle.reasons.specs.Reasons.{holds}
+use Rattle.reasons.proofs.dull_bin.Statement.{statement}
+use Rattle.reasons.proofs.dull_bin.Tie as tie
 
-array-copy-out-urban : tie.Need-array-copy-out-urban
-array-copy-out-urban c = search needs
+array_copy_out_urban : tie.Need-array-copy-out-urban
+array_copy_out_urban c = search rules
 
-array-copy-out-rural : tie.Need-array-copy-out-rural
-array-copy-out-rural c = search needs
+array_copy_out_rural : tie.Need-array-copy-out-rural
+array_copy_out_rural c = search rules
 
-array-copy-out-motorway : tie.Need-array-copy-out-motorway
-array-copy-out-motorway c = search needs
+array_copy_out_motorway : tie.Need-array-copy-out-motorway
+array_copy_out_motorway c = search rules
 
-is-dull-requires : tie.Need-is-dull-requires
-is-dull-requires c κs = search needs
+is_dull_requires : tie.Need-is-dull-requires
+is_dull_requires c κs = search rules
 
-is-dull-requires-2 : tie.Need-is-dull-requires-2
-is-dull-requires-2 c κs = search needs
+is_dull_requires_2 : tie.Need-is-dull-requires-2
+is_dull_requires_2 c κs = search rules
 
-is-dull-requires-3 : tie.Need-is-dull-requires-3
-is-dull-requires-3 c κs = search needs
+is_dull_requires_3 : tie.Need-is-dull-requires-3
+is_dull_requires_3 c κs = search rules
 
 returns : tie.Need-returns
 unfolding holds
-returns c = rw (c .is-dull3 .ensures, c .before .is-dull2 .ensures, c .before .before .is-dull .ensures) refl
+returns c = rw (c.is_dull3.ensures, c.before.is_dull2.ensures, c.before.before.is_dull.ensures) refl
 
-pub dull-bin-spec : {M : Type 1} → statement M
-dull-bin-spec =
+pub dull_bin_spec : {M : Type 1} → statement M
+dull_bin_spec =
     tie.close
     (tie.spec
-    array-copy-out-urban
-    array-copy-out-rural
-    array-copy-out-motorway
-    is-dull-requires
-    is-dull-requires-2
-    is-dull-requires-3
+    array_copy_out_urban
+    array_copy_out_rural
+    array_copy_out_motorway
+    is_dull_requires
+    is_dull_requires_2
+    is_dull_requires_3
     returns)

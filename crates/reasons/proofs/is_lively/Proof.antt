@@ -1,17 +1,17 @@
 -- `reasons::is_lively` meets its contract: its tests are those of the definition. Assumes nothing.
-use borrow.Author.Needs.{needs}
+use borrow.Author.Rules.{rules}
 use mathlib.Core.Path.{refl}
-use Rattle·reasons·proofs.proofs.is_lively.Statement.{statement}
-use Rattle·reasons·proofs.proofs.is_lively.Tie as tie
+use Rattle.reasons.proofs.is_lively.Statement.{statement}
+use Rattle.reasons.proofs.is_lively.Tie as tie
 
-has-few-requires : tie.Need-has-few-requires
-has-few-requires c κs = search needs
+has_few_requires : tie.Need-has-few-requires
+has_few_requires c κs = search rules
 
-too-lively-requires : tie.Need-too-lively-requires
-too-lively-requires c κs = search needs
+too_lively_requires : tie.Need-too-lively-requires
+too_lively_requires c κs = search rules
 
 returns : tie.Need-returns
-returns c = rw (c .too-lively .ensures, c .before .has-few .ensures) refl
+returns c = rw (c.too_lively.ensures, c.before.has_few.ensures) refl
 
-pub is-lively-spec : {M : Type 1} → statement M
-is-lively-spec = tie.close (tie.spec has-few-requires too-lively-requires returns)
+pub is_lively_spec : {M : Type 1} → statement M
+is_lively_spec = tie.close (tie.spec has_few_requires too_lively_requires returns)

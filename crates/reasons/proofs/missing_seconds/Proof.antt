@@ -1,22 +1,22 @@
 -- `reasons::missing_seconds` meets its contract: its tests are those of the definition. Assumes nothing.
-use borrow.Author.Needs.{needs}
+use borrow.Author.Rules.{rules}
 use mathlib.Core.Path.{refl}
-use Rattle·reasons·specs.specs.Reasons.{holds}
-use Rattle·reasons·proofs.proofs.missing_seconds.Statement.{statement}
-use Rattle·reasons·proofs.proofs.missing_seconds.Tie as tie
+use Rattle.reasons.specs.Reasons.{holds}
+use Rattle.reasons.proofs.missing_seconds.Statement.{statement}
+use Rattle.reasons.proofs.missing_seconds.Tie as tie
 
-cast-seconds : tie.Need-cast-seconds
-cast-seconds c = search needs
+cast_seconds : tie.Need-overflow-cast-seconds
+cast_seconds c = search rules
 
-cast-missing : tie.Need-cast-missing
-cast-missing c = search needs
+cast_missing : tie.Need-overflow-cast-missing
+cast_missing c = search rules
 
-mul-result : tie.Need-mul-result
-mul-result c = search needs
+mul_result : tie.Need-overflow-mul-result
+mul_result c = search rules
 
 returns : tie.Need-returns
 unfolding holds
 returns c = refl
 
-pub missing-seconds-spec : {M : Type 1} → statement M
-missing-seconds-spec = tie.close (tie.spec cast-seconds cast-missing mul-result returns)
+pub missing_seconds_spec : {M : Type 1} → statement M
+missing_seconds_spec = tie.close (tie.spec cast_seconds cast_missing mul_result returns)

@@ -1,40 +1,40 @@
 -- `reasons::outside_band` meets its contract: its three tests are those of the definition. Assumes nothing.
 use mathlib.Core.Path.{refl}
-use borrow.Author.Needs.{needs}
-use Rattle·reasons·specs.specs.Reasons.{holds}
-use Rattle·reasons·proofs.proofs.outside_band.Statement.{statement}
-use Rattle·reasons·proofs.proofs.outside_band.Tie as tie
+use borrow.Author.Rules.{rules}
+use Rattle.reasons.specs.Reasons.{holds}
+use Rattle.reasons.proofs.outside_band.Statement.{statement}
+use Rattle.reasons.proofs.outside_band.Tie as tie
 
-array-copy-out-urban : tie.Need-array-copy-out-urban
-array-copy-out-urban c = search needs
+array_copy_out_urban : tie.Need-array-copy-out-urban
+array_copy_out_urban c = search rules
 
-array-copy-out-rural : tie.Need-array-copy-out-rural
-array-copy-out-rural c = search needs
+array_copy_out_rural : tie.Need-array-copy-out-rural
+array_copy_out_rural c = search rules
 
-array-copy-out-motorway : tie.Need-array-copy-out-motorway
-array-copy-out-motorway c = search needs
+array_copy_out_motorway : tie.Need-array-copy-out-motorway
+array_copy_out_motorway c = search rules
 
-under-half-requires : tie.Need-under-half-requires
-under-half-requires c κs = search needs
+under_half_requires : tie.Need-under-half-requires
+under_half_requires c κs = search rules
 
-under-half-requires-2 : tie.Need-under-half-requires-2
-under-half-requires-2 c κs = search needs
+under_half_requires_2 : tie.Need-under-half-requires-2
+under_half_requires_2 c κs = search rules
 
-under-half-requires-3 : tie.Need-under-half-requires-3
-under-half-requires-3 c κs = search needs
+under_half_requires_3 : tie.Need-under-half-requires-3
+under_half_requires_3 c κs = search rules
 
 returns : tie.Need-returns
 unfolding holds
-returns c = rw (c .under-half3 .ensures, c .before .under-half2 .ensures, c .before .before .under-half .ensures) refl
+returns c = rw (c.under_half3.ensures, c.before.under_half2.ensures, c.before.before.under_half.ensures) refl
 
-pub outside-band-spec : {M : Type 1} → statement M
-outside-band-spec =
+pub outside_band_spec : {M : Type 1} → statement M
+outside_band_spec =
     tie.close
     (tie.spec
-    array-copy-out-urban
-    array-copy-out-rural
-    array-copy-out-motorway
-    under-half-requires
-    under-half-requires-2
-    under-half-requires-3
+    array_copy_out_urban
+    array_copy_out_rural
+    array_copy_out_motorway
+    under_half_requires
+    under_half_requires_2
+    under_half_requires_3
     returns)

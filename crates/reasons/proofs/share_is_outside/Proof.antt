@@ -1,33 +1,33 @@
 -- `reasons::share_is_outside` meets its contract: a percentage below 256 of a u32 fits a u64. Assumes nothing.
-use borrow.Author.Needs.{needs}
-use Prim.Native.Nat.{ℕ, _*_, _^_, _≤_, _<_}
+use borrow.Author.Rules.{rules}
+use Prim.Native.Nat.{ℕ, ◌*◌, ◌^◌, ◌≤◌, ◌<◌}
 use native.Mathlib.Omega.{arith}
-use Rattle·base.proofs.Products.{product-at-most}
-use Rattle·reasons·proofs.proofs.share_is_outside.Statement.{statement}
-use Rattle·reasons·proofs.proofs.share_is_outside.Tie as tie
+use Rattle.base.proofs.Products.{product_at_most}
+use Rattle.reasons.proofs.share_is_outside.Statement.{statement}
+use Rattle.reasons.proofs.share_is_outside.Tie as tie
 
-percent-fits : (percent whole : ℕ) → percent < 2 ^ 8 → whole < 2 ^ 32 → percent * whole < 2 ^ 64
-percent-fits percent whole p q =
+percent_fits : (percent whole : ℕ) → percent < 2 ^ 8 → whole < 2 ^ 32 → percent * whole < 2 ^ 64
+percent_fits percent whole p q =
     let low : percent ≤ 256 = omega arith in
     let high : whole ≤ 4_294_967_296 = omega arith in
-    omega (arith, product-at-most {m = 256} {n = 4_294_967_296} (2 ^ 40) low high tt)
+    omega (arith, product_at_most {m = 256} {n = 4_294_967_296} (2 ^ 40) low high tt)
 
-mul-is-outside : tie.Need-mul-is-outside
-mul-is-outside c = record { fits = percent-fits (c .args .low) (c .args .whole) (search needs) (search needs) }
+mul_is_outside : tie.Need-overflow-mul-is-outside
+mul_is_outside c = record { fits = percent_fits c.args.low c.args.whole (search rules) (search rules) }
 
-mul-is-outside-2 : tie.Need-mul-is-outside-2
-mul-is-outside-2 c = record { fits = percent-fits (c .args .high) (c .args .whole) (search needs) (search needs) }
+mul_is_outside_2 : tie.Need-overflow-mul-is-outside-2
+mul_is_outside_2 c = record { fits = percent_fits c.args.high c.args.whole (search rules) (search rules) }
 
-mul-is-outside-3 : tie.Need-mul-is-outside-3
-mul-is-outside-3 c = search needs
+mul_is_outside_3 : tie.Need-overflow-mul-is-outside-3
+mul_is_outside_3 c = search rules
 
-is-outside-requires : tie.Need-is-outside-requires
-is-outside-requires c κs = search needs
+is_outside_requires : tie.Need-is-outside-requires
+is_outside_requires c κs = search rules
 
 returns : tie.Need-returns
-returns c = search needs
+returns c = search rules
 
-pub share-is-outside-spec : {M : Type 1} → statement M
-share-is-outside-spec =
+pub share_is_outside_spec : {M : Type 1} → statement M
+share_is_outside_spec =
     tie.close
-    (tie.spec mul-is-outside mul-is-outside-2 mul-is-outside-3 is-outside-requires returns)
+    (tie.spec mul_is_outside mul_is_outside_2 mul_is_outside_3 is_outside_requires returns)

@@ -1,40 +1,40 @@
 -- `reasons::share_of_distance` meets its contract: its three tests are those of the definition. Assumes nothing.
 use mathlib.Core.Path.{refl}
-use borrow.Author.Needs.{needs}
-use Rattle·reasons·specs.specs.Reasons.{holds}
-use Rattle·reasons·proofs.proofs.share_of_distance.Statement.{statement}
-use Rattle·reasons·proofs.proofs.share_of_distance.Tie as tie
+use borrow.Author.Rules.{rules}
+use Rattle.reasons.specs.Reasons.{holds}
+use Rattle.reasons.proofs.share_of_distance.Statement.{statement}
+use Rattle.reasons.proofs.share_of_distance.Tie as tie
 
-array-copy-out-urban : tie.Need-array-copy-out-urban
-array-copy-out-urban c = search needs
+array_copy_out_urban : tie.Need-array-copy-out-urban
+array_copy_out_urban c = search rules
 
-array-copy-out-rural : tie.Need-array-copy-out-rural
-array-copy-out-rural c = search needs
+array_copy_out_rural : tie.Need-array-copy-out-rural
+array_copy_out_rural c = search rules
 
-array-copy-out-motorway : tie.Need-array-copy-out-motorway
-array-copy-out-motorway c = search needs
+array_copy_out_motorway : tie.Need-array-copy-out-motorway
+array_copy_out_motorway c = search rules
 
-share-is-outside-requires : tie.Need-share-is-outside-requires
-share-is-outside-requires c κs = search needs
+share_is_outside_requires : tie.Need-share-is-outside-requires
+share_is_outside_requires c κs = search rules
 
-other-is-outside-requires : tie.Need-other-is-outside-requires
-other-is-outside-requires c κs = search needs
+other_is_outside_requires : tie.Need-other-is-outside-requires
+other_is_outside_requires c κs = search rules
 
-other-is-outside-requires-2 : tie.Need-other-is-outside-requires-2
-other-is-outside-requires-2 c κs = search needs
+other_is_outside_requires_2 : tie.Need-other-is-outside-requires-2
+other_is_outside_requires_2 c κs = search rules
 
 returns : tie.Need-returns
 unfolding holds
-returns c = rw (c .other-is-outside2 .ensures, c .before .other-is-outside .ensures, c .before .before .share-is-outside .ensures) refl
+returns c = rw (c.other_is_outside2.ensures, c.before.other_is_outside.ensures, c.before.before.share_is_outside.ensures) refl
 
-pub share-of-distance-spec : {M : Type 1} → statement M
-share-of-distance-spec =
+pub share_of_distance_spec : {M : Type 1} → statement M
+share_of_distance_spec =
     tie.close
     (tie.spec
-    array-copy-out-urban
-    array-copy-out-rural
-    array-copy-out-motorway
-    share-is-outside-requires
-    other-is-outside-requires
-    other-is-outside-requires-2
+    array_copy_out_urban
+    array_copy_out_rural
+    array_copy_out_motorway
+    share_is_outside_requires
+    other_is_outside_requires
+    other_is_outside_requires_2
     returns)

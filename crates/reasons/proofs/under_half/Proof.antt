@@ -1,20 +1,20 @@
 -- `reasons::under_half` meets its contract: its tests are those of the definition. Assumes nothing.
-use borrow.Author.Needs.{needs}
+use borrow.Author.Rules.{rules}
 use mathlib.Core.Path.{refl}
-use Rattle·reasons·proofs.proofs.under_half.Statement.{statement}
-use Rattle·reasons·proofs.proofs.under_half.Tie as tie
+use Rattle.reasons.proofs.under_half.Statement.{statement}
+use Rattle.reasons.proofs.under_half.Tie as tie
 
-cast-windows : tie.Need-cast-windows
-cast-windows c = search needs
+cast_windows : tie.Need-overflow-cast-windows
+cast_windows c = search rules
 
-cast-inside : tie.Need-cast-inside
-cast-inside c = search needs
+cast_inside : tie.Need-overflow-cast-inside
+cast_inside c = search rules
 
-mul-result : tie.Need-mul-result
-mul-result c = search needs
+mul_result : tie.Need-overflow-mul-result
+mul_result c = search rules
 
 returns : tie.Need-returns
 returns c = refl
 
-pub under-half-spec : {M : Type 1} → statement M
-under-half-spec = tie.close (tie.spec cast-windows cast-inside mul-result returns)
+pub under_half_spec : {M : Type 1} → statement M
+under_half_spec = tie.close (tie.spec cast_windows cast_inside mul_result returns)

@@ -1,18 +1,18 @@
 -- `report::judged_fits` meets its contract: no text is longer than the longest, and a shorter buffer is compared with the length. Assumes nothing.
-use Prim.Native.Nat.{ℕ, _≤_}
+use Prim.Native.Nat.{ℕ, ◌≤◌}
 use mathlib.Core.Path.{sym, ap}
 use native.Mathlib.Omega.{arith}
 use lib.Dec.{leb}
 use lib.ListN.{length}
-use borrow.Author.Needs.{needs}
+use borrow.Author.Rules.{rules}
 use borrow.Author.Tests.{le-leb}
-use Rattle·report·specs.specs.Lines.{judgedText}
-use Rattle·report·proofs.proofs.Lengths.{Words, judged-longest}
-use Rattle·report·proofs.proofs.judged_fits.Statement.{statement}
-use Rattle·report·proofs.proofs.judged_fits.Tie as tie
+use Rattle.report.specs.Lines.{judged_text}
+use Rattle.report.proofs.Lengths.{Words, judged-longest}
+use Rattle.report.proofs.judged_fits.Statement.{statement}
+use Rattle.report.proofs.judged_fits.Tie as tie
 
 -- the numbers of the lines are words of 64 bits
-words : (c : tie.Start) → Words (c .args .trip)
+words : (c : tie.Start) → Words c.args.trip
 words c =
     record {
       seconds = omega arith;
@@ -27,19 +27,19 @@ words c =
 
 returns : tie.Need-returns
 returns c =
-    let room : length (judgedText (c .before .args .trip)) ≤ c .before .args .room = omega (arith, judged-longest (c .before .args .trip) (words (c .before))) in
+    let room : length (judged_text c.before.args.trip) ≤ c.before.args.room = omega (arith, judged-longest c.before.args.trip (words c.before)) in
     sym (le-leb _ _ room)
 
-judged-length-requires : tie.Need-judged-length-requires
-judged-length-requires c κs = search needs
+judged-length_requires : tie.Need-judged-length-requires
+judged-length_requires c κs = search rules
 
-returns-2 : tie.Need-returns-2
-returns-2 c = ap (λ (n : ℕ). leb n (c .before .before .args .room)) (c .judged-length .ensures)
+returns_2 : tie.Need-returns-2
+returns_2 c = ap (λ (n : ℕ). leb n c.before.before.args.room) c.judged_length.ensures
 
-pub judged-fits-spec : {M : Type 1} → statement M
-judged-fits-spec =
+pub judged_fits_spec : {M : Type 1} → statement M
+judged_fits_spec =
     tie.close
     (tie.spec
     returns
-    judged-length-requires
-    returns-2)
+    judged-length_requires
+    returns_2)

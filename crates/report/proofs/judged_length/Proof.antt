@@ -1,81 +1,81 @@
 -- `report::judged_length` meets its contract: the digits of the numbers and the bytes besides add up. Assumes nothing.
 use native.Mathlib.Omega.{arith}
-use borrow.Author.Needs.{needs}
-use Rattle·report·proofs.proofs.Lengths.{judged-length}
-use Rattle·report·proofs.proofs.judged_length.Statement.{statement}
-use Rattle·report·proofs.proofs.judged_length.Tie as tie
+use borrow.Author.Rules.{rules}
+use Rattle.report.proofs.Lengths.{judged-length}
+use Rattle.report.proofs.judged_length.Statement.{statement}
+use Rattle.report.proofs.judged_length.Tie as tie
 
-digit-count-requires : tie.Need-digit-count-requires
-digit-count-requires c κs = search needs
+digit-count_requires : tie.Need-digit-count-requires
+digit-count_requires c κs = search rules
 
-add-result : tie.Need-add-result
-add-result c = omega arith
+add_result : tie.Need-overflow-add-result
+add_result c = omega arith
 
-digit-count-requires-2 : tie.Need-digit-count-requires-2
-digit-count-requires-2 c κs = search needs
+digit-count_requires_2 : tie.Need-digit-count-requires-2
+digit-count_requires_2 c κs = search rules
 
-add-result-2 : tie.Need-add-result-2
-add-result-2 c = omega arith
+add_result_2 : tie.Need-overflow-add-result-2
+add_result_2 c = omega arith
 
-digit-count-requires-3 : tie.Need-digit-count-requires-3
-digit-count-requires-3 c κs = search needs
+digit-count_requires_3 : tie.Need-digit-count-requires-3
+digit-count_requires_3 c κs = search rules
 
-add-result-3 : tie.Need-add-result-3
-add-result-3 c = omega arith
+add_result_3 : tie.Need-overflow-add-result-3
+add_result_3 c = omega arith
 
-digit-count-requires-4 : tie.Need-digit-count-requires-4
-digit-count-requires-4 c κs = search needs
+digit-count_requires_4 : tie.Need-digit-count-requires-4
+digit-count_requires_4 c κs = search rules
 
-add-result-4 : tie.Need-add-result-4
-add-result-4 c = omega arith
+add_result_4 : tie.Need-overflow-add-result-4
+add_result_4 c = omega arith
 
-digit-count-requires-5 : tie.Need-digit-count-requires-5
-digit-count-requires-5 c κs = search needs
+digit-count_requires_5 : tie.Need-digit-count-requires-5
+digit-count_requires_5 c κs = search rules
 
-add-result-5 : tie.Need-add-result-5
-add-result-5 c = omega arith
+add_result_5 : tie.Need-overflow-add-result-5
+add_result_5 c = omega arith
 
-class-digits-requires : tie.Need-class-digits-requires
-class-digits-requires c κs = search needs
+class_digits_requires : tie.Need-class-digits-requires
+class_digits_requires c κs = search rules
 
-add-result-6 : tie.Need-add-result-6
-add-result-6 c = omega arith
+add_result_6 : tie.Need-overflow-add-result-6
+add_result_6 c = omega arith
 
-class-digits-requires-2 : tie.Need-class-digits-requires-2
-class-digits-requires-2 c κs = search needs
+class_digits_requires_2 : tie.Need-class-digits-requires-2
+class_digits_requires_2 c κs = search rules
 
-add-result-7 : tie.Need-add-result-7
-add-result-7 c = omega arith
+add_result_7 : tie.Need-overflow-add-result-7
+add_result_7 c = omega arith
 
-class-digits-requires-3 : tie.Need-class-digits-requires-3
-class-digits-requires-3 c κs = search needs
+class_digits_requires_3 : tie.Need-class-digits-requires-3
+class_digits_requires_3 c κs = search rules
 
-add-result-8 : tie.Need-add-result-8
-add-result-8 c = omega arith
+add_result_8 : tie.Need-overflow-add-result-8
+add_result_8 c = omega arith
 
 returns : tie.Need-returns
 returns c =
     omega
-    (arith, judged-length (c .before .before .before .before .before .before .before .before .before .before .before .args .trip), c .before .before .before .before .before .before .before .digit-count .ensures .0, c .before .before .before .before .before .before .digit-count2 .ensures .0, c .before .before .before .before .before .digit-count3 .ensures .0, c .before .before .before .before .digit-count4 .ensures .0, c .before .before .before .digit-count5 .ensures .0, c .before .before .class-digits .ensures .0, c .before .class-digits2 .ensures .0, c .class-digits3 .ensures .0)
+    (arith, judged-length c.before.before.before.before.before.before.before.before.before.before.before.args.trip, c.before.before.before.before.before.before.before.digit_count.ensures.0, c.before.before.before.before.before.before.digit_count2.ensures.0, c.before.before.before.before.before.digit_count3.ensures.0, c.before.before.before.before.digit_count4.ensures.0, c.before.before.before.digit_count5.ensures.0, c.before.before.class_digits.ensures.0, c.before.class_digits2.ensures.0, c.class_digits3.ensures.0)
 
-pub judged-length-spec : {M : Type 1} → statement M
-judged-length-spec =
+pub judged-length_spec : {M : Type 1} → statement M
+judged-length_spec =
     tie.close
     (tie.spec
-    digit-count-requires
-    add-result
-    digit-count-requires-2
-    add-result-2
-    digit-count-requires-3
-    add-result-3
-    digit-count-requires-4
-    add-result-4
-    digit-count-requires-5
-    add-result-5
-    class-digits-requires
-    add-result-6
-    class-digits-requires-2
-    add-result-7
-    class-digits-requires-3
-    add-result-8
+    digit-count_requires
+    add_result
+    digit-count_requires_2
+    add_result_2
+    digit-count_requires_3
+    add_result_3
+    digit-count_requires_4
+    add_result_4
+    digit-count_requires_5
+    add_result_5
+    class_digits_requires
+    add_result_6
+    class_digits_requires_2
+    add_result_7
+    class_digits_requires_3
+    add_result_8
     returns)

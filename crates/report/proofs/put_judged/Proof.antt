@@ -1,40 +1,40 @@
 -- `report::put_judged` meets its contract: the lines of counts, of classes and of reasons, one behind the other. Assumes nothing.
-use Rattle·report·specs.specs.Lines.{countLines, classLines, reasonsLine, judgedText}
-use Rattle·text.proofs.Writing.{both-wrote, room-one, room-two, room-three, wrote-same-length}
-use Rattle·report·proofs.proofs.put_judged.Statement.{statement}
-use Rattle·report·proofs.proofs.put_judged.Tie as tie
+use Rattle.report.specs.Lines.{count_lines, class_lines, reasons_line, judged_text}
+use Rattle.text.proofs.Writing.{both_wrote, room_one, room_two, room_three, wrote_same_length}
+use Rattle.report.proofs.put_judged.Statement.{statement}
+use Rattle.report.proofs.put_judged.Tie as tie
 
 returns : tie.Need-returns
-unfolding judgedText
-returns c = both-wrote (both-wrote (c .before .before .before .before .before .before .before .before .before .before .put-count-lines .ensures) (c .before .before .before .before .before .before .put-class-lines .ensures)) (c .before .before .put-reasons-line .ensures)
+unfolding judged_text
+returns c = both_wrote (both_wrote c.before.before.before.before.before.before.before.before.before.before.put_count_lines.ensures c.before.before.before.before.before.before.put_class_lines.ensures) c.before.before.put_reasons_line.ensures
 
-same-length : tie.Need-same-length
-same-length c = wrote-same-length (returns c)
+same_length : tie.Need-same-length
+same_length c = wrote_same_length (returns c)
 
-put-count-lines-requires : tie.Need-put-count-lines-requires
-unfolding judgedText
-put-count-lines-requires c κs =
-    let a = c .before .before .args in
-    room-one (countLines (a .trip)) (classLines (a .trip)) (reasonsLine (a .trip .reasons)) (a .buffer .now) (a .at) (c .before .before .pre)
+put_count_lines_requires : tie.Need-put-count-lines-requires
+unfolding judged_text
+put_count_lines_requires c κs =
+    let a = c.before.before.args in
+    room_one (count_lines a.trip) (class_lines a.trip) (reasons_line a.trip.reasons) a.buffer.now a.at c.before.before.requires
 
-put-class-lines-requires : tie.Need-put-class-lines-requires
-unfolding judgedText
-put-class-lines-requires c κs =
-    let a = c .before .before .before .before .before .before .args in
-    room-two (countLines (a .trip)) (classLines (a .trip)) (reasonsLine (a .trip .reasons)) (a .buffer .now) (a .at) (c .before .before .before .before .before .before .pre) (c .before .before .before .put-count-lines .ensures)
+put_class_lines_requires : tie.Need-put-class-lines-requires
+unfolding judged_text
+put_class_lines_requires c κs =
+    let a = c.before.before.before.before.before.before.args in
+    room_two (count_lines a.trip) (class_lines a.trip) (reasons_line a.trip.reasons) a.buffer.now a.at c.before.before.before.before.before.before.requires c.before.before.before.put_count_lines.ensures
 
-put-reasons-line-requires : tie.Need-put-reasons-line-requires
-unfolding judgedText
-put-reasons-line-requires c κs =
-    let a = c .before .before .before .before .before .before .before .before .before .before .args in
-    room-three (countLines (a .trip)) (classLines (a .trip)) (reasonsLine (a .trip .reasons)) (a .buffer .now) (a .at) (c .before .before .before .before .before .before .before .before .before .before .pre) (c .before .before .before .before .before .before .before .put-count-lines .ensures) (c .before .before .before .put-class-lines .ensures)
+put_reasons_line_requires : tie.Need-put-reasons-line-requires
+unfolding judged_text
+put_reasons_line_requires c κs =
+    let a = c.before.before.before.before.before.before.before.before.before.before.args in
+    room_three (count_lines a.trip) (class_lines a.trip) (reasons_line a.trip.reasons) a.buffer.now a.at c.before.before.before.before.before.before.before.before.before.before.requires c.before.before.before.before.before.before.before.put_count_lines.ensures c.before.before.before.put_class_lines.ensures
 
-pub put-judged-spec : {M : Type 1} → statement M
-put-judged-spec =
+pub put_judged_spec : {M : Type 1} → statement M
+put_judged_spec =
     tie.close
     (tie.spec
-    put-count-lines-requires
-    put-class-lines-requires
-    put-reasons-line-requires
-    same-length
+    put_count_lines_requires
+    put_class_lines_requires
+    put_reasons_line_requires
+    same_length
     returns)

@@ -1,69 +1,69 @@
 -- `report::report_refusal` meets its contract: where the line fits it is written from place 0 on, and else nothing is. Assumes nothing.
-use Prim.Native.Nat.{_≤_, _<_}
+use Prim.Native.Nat.{◌≤◌, ◌<◌}
 use mathlib.Core.Path.{refl, sym}
 use native.Mathlib.Omega.{arith}
 use lib.ListN.{length}
-use borrow.Author.Needs.{needs}
-use Rattle·report·specs.specs.Lines.{refusalText}
-use Rattle·text.specs.Inside.{Wrote}
-use Rattle·report·proofs.proofs.Lengths.{refusal-length}
-use Rattle·text.proofs.Writing.{wrote-same-length}
-use Rattle·report·proofs.proofs.Fitting.{wrote-length, wrote-buffer, short-length, short-buffer}
-use Rattle·report·proofs.proofs.report_refusal.Statement.{statement}
-use Rattle·report·proofs.proofs.report_refusal.Tie as tie
+use borrow.Author.Rules.{rules}
+use Rattle.report.specs.Lines.{refusal_text}
+use Rattle.text.specs.Inside.{Wrote}
+use Rattle.report.proofs.Lengths.{refusal_length}
+use Rattle.text.proofs.Writing.{wrote_same_length}
+use Rattle.report.proofs.Fitting.{wrote_length, wrote_buffer, short_length, short_buffer}
+use Rattle.report.proofs.report_refusal.Statement.{statement}
+use Rattle.report.proofs.report_refusal.Tie as tie
 
-fits : (c : tie.Then1) → length (refusalText (c .before .before .before .before .args .number) (c .before .before .before .before .args .place)) ≤ length (c .before .before .before .before .args .buffer .now)
-fits c = omega (arith, refusal-length (c .before .before .before .before .args .number) (c .before .before .before .before .args .place), c .before .before .digit-count .ensures .0, c .before .digit-count2 .ensures .0)
+fits : (c : tie.Then1) → length (refusal_text c.before.before.before.before.args.number c.before.before.before.before.args.place) ≤ length c.before.before.before.before.args.buffer.now
+fits c = omega (arith, refusal_length c.before.before.before.before.args.number c.before.before.before.before.args.place, c.before.before.digit_count.ensures.0, c.before.digit_count2.ensures.0)
 
-short : (c : tie.Else1) → length (c .before .before .before .before .args .buffer .now) < length (refusalText (c .before .before .before .before .args .number) (c .before .before .before .before .args .place))
-short c = omega (arith, refusal-length (c .before .before .before .before .args .number) (c .before .before .before .before .args .place), c .before .before .digit-count .ensures .0, c .before .digit-count2 .ensures .0)
+short : (c : tie.Else1) → length c.before.before.before.before.args.buffer.now < length (refusal_text c.before.before.before.before.args.number c.before.before.before.before.args.place)
+short c = omega (arith, refusal_length c.before.before.before.before.args.number c.before.before.before.before.args.place, c.before.before.digit_count.ensures.0, c.before.digit_count2.ensures.0)
 
-digit-count-requires : tie.Need-digit-count-requires
-digit-count-requires c κs = search needs
+digit-count_requires : tie.Need-digit-count-requires
+digit-count_requires c κs = search rules
 
-add-if1 : tie.Need-add-if1
-add-if1 c = omega arith
+add_if1 : tie.Need-overflow-add-if1
+add_if1 c = omega arith
 
-digit-count-requires-2 : tie.Need-digit-count-requires-2
-digit-count-requires-2 c κs = search needs
+digit-count_requires_2 : tie.Need-digit-count-requires-2
+digit-count_requires_2 c κs = search rules
 
-add-if1-2 : tie.Need-add-if1-2
-add-if1-2 c = omega arith
+add_if1_2 : tie.Need-overflow-add-if1-2
+add_if1_2 c = omega arith
 
-slice-aggregate-put-line : tie.Need-slice-aggregate-put-line
-slice-aggregate-put-line c = refl
+slice_aggregate_put_line : tie.Need-slice-aggregate-put-line
+slice_aggregate_put_line c = refl
 
-slice-aggregate-put-line-2 : tie.Need-slice-aggregate-put-line-2
-slice-aggregate-put-line-2 c = refl
+slice_aggregate_put_line_2 : tie.Need-slice-aggregate-put-line-2
+slice_aggregate_put_line_2 c = refl
 
-put-line-requires : tie.Need-put-line-requires
-unfolding refusalText
-put-line-requires c κs = omega (arith, fits (c .before .before .before))
+put_line_requires : tie.Need-put-line-requires
+unfolding refusal_text
+put_line_requires c κs = omega (arith, fits c.before.before.before)
 
-wrote : (c : tie.After-slice-known2) → Wrote (c .before .before .before .before .before .before .before .before .before .before .args .buffer .now) 0 (refusalText (c .before .before .before .before .before .before .before .before .before .before .args .number) (c .before .before .before .before .before .before .before .before .before .before .args .place)) (c .before .before .put-line .last .0) (c .before .before .put-line .result)
-unfolding refusalText
-wrote c = c .before .before .put-line .ensures
+wrote : (c : tie.After-slice-known2) → Wrote c.before.before.before.before.before.before.before.before.before.before.args.buffer.now 0 (refusal_text c.before.before.before.before.before.before.before.before.before.before.args.number c.before.before.before.before.before.before.before.before.before.before.args.place) c.before.before.put_line.new.0 c.before.before.put_line.result
+unfolding refusal_text
+wrote c = c.before.before.put_line.ensures
 
-same-length : tie.Need-same-length
-same-length c = wrote-same-length (wrote c)
+same_length : tie.Need-same-length
+same_length c = wrote_same_length (wrote c)
 
 returns : tie.Need-returns
-returns c = (wrote-length (wrote c) (fits (c .before .before .before .before .before .before)), wrote-buffer (wrote c) (fits (c .before .before .before .before .before .before)))
+returns c = (wrote_length (wrote c) (fits c.before.before.before.before.before.before), wrote_buffer (wrote c) (fits c.before.before.before.before.before.before))
 
-returns-2 : tie.Need-returns-2
-returns-2 c = (sym (short-length _ _ (short c)), sym (short-buffer _ _ (short c)))
+returns_2 : tie.Need-returns-2
+returns_2 c = (sym (short_length _ _ (short c)), sym (short_buffer _ _ (short c)))
 
-pub report-refusal-spec : {M : Type 1} → statement M
-report-refusal-spec =
+pub report_refusal_spec : {M : Type 1} → statement M
+report_refusal_spec =
     tie.close
     (tie.spec
-    digit-count-requires
-    add-if1
-    digit-count-requires-2
-    add-if1-2
-    slice-aggregate-put-line
-    slice-aggregate-put-line-2
-    put-line-requires
-    same-length
+    digit-count_requires
+    add_if1
+    digit-count_requires_2
+    add_if1_2
+    slice_aggregate_put_line
+    slice_aggregate_put_line_2
+    put_line_requires
+    same_length
     returns
-    returns-2)
+    returns_2)

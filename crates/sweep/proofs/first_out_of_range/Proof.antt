@@ -1,64 +1,64 @@
 -- `sweep::first_out_of_range` meets its contract: each mass passed is in range, so the first that is not is the first bad one. Assumes nothing.
-use Prim.Native.Nat.{ℕ, _≤_, _<_, _-_}
-use mathlib.Core.Path.{_≡_, sym}
+use Prim.Native.Nat.{ℕ, ◌≤◌, ◌<◌, ◌-◌}
+use mathlib.Core.Path.{◌≡◌, sym}
 use mathlib.Core.Bool.{true}
 use native.Mathlib.Omega.{arith}
-use borrow.Author.Count.{below-more}
+use borrow.Author.Count.{below_more}
 use borrow.Author.Tests.{le-leb, lt-leb}
-use lib.ListN.{length, getD}
-use Rattle·base.specs.Second.{co2InRange}
-use Rattle·base.proofs.FirstBad.{first-bad-is}
-use borrow.Author.Needs.{needs}
-use Rattle·sweep·proofs.proofs.first_out_of_range.Statement.{statement}
-use Rattle·sweep·proofs.proofs.first_out_of_range.Tie as tie
+use lib.ListN.{length, get_or}
+use Rattle.base.specs.Second.{co2_in_range}
+use Rattle.base.proofs.FirstBad.{first_bad_is}
+use borrow.Author.Rules.{rules}
+use Rattle.sweep.proofs.first_out_of_range.Statement.{statement}
+use Rattle.sweep.proofs.first_out_of_range.Tie as tie
 
-abbrev Inv-loop : tie.InvT-loop
-Inv-loop co2 i₀ i = (i ≤ length co2) × ((k : ℕ) → k < i → co2InRange (getD co2 k 0) ≡ true)
+abbrev invariant_loop : tie.invariant-loop
+invariant_loop co2 i₀ i = (i ≤ length co2) × ((k : ℕ) → k < i → co2_in_range (get_or co2 k 0) ≡ true)
 
-abbrev μ-loop : tie.MeasureT-loop
-μ-loop co2 i₀ i = length co2 - i
+abbrev decreases_loop : tie.decreases-loop
+decreases_loop co2 i₀ i = length co2 - i
 
-loop-holds : tie.Need-loop-holds Inv-loop μ-loop
-loop-holds c = (search needs, λ k (h : k < 0). absurd (omega arith))
+loop_holds : tie.Need-loop-init invariant_loop decreases_loop
+loop_holds c = (search rules, λ k (h : k < 0). absurd (omega arith))
 
-mul-if1 : tie.Need-mul-if1 Inv-loop μ-loop
-mul-if1 c = search needs
+mul_if1 : tie.Need-overflow-mul-if1 invariant_loop decreases_loop
+mul_if1 c = search rules
 
-shared-slice-read-if1 : tie.Need-shared-slice-read-if1 Inv-loop μ-loop
-shared-slice-read-if1 c = search needs
+shared_slice_read_if1 : tie.Need-shared-slice-read-if1 invariant_loop decreases_loop
+shared_slice_read_if1 c = search rules
 
-returns : tie.Need-returns Inv-loop μ-loop
+returns : tie.Need-returns invariant_loop decreases_loop
 returns c =
-    let l = c .before .before .before in
-    sym (first-bad-is (λ k. co2InRange (getD (l .before .args .co2 .now) k 0)) _ (l .loop .i) (record { within = l .loop .inv .0; before = l .loop .inv .1; there = λ h. lt-leb _ _ (c .if1 .taken) }))
+    let l = c.before.before.before in
+    sym (first_bad_is (λ k. co2_in_range (get_or l.before.args.co2.now k 0)) _ l.loop.i (record { within = l.loop.invariant.0; before = l.loop.invariant.1; there = λ h. lt-leb _ _ c.if1.true }))
 
-add-i : tie.Need-add-i Inv-loop μ-loop
-add-i c = search needs
+add_i : tie.Need-overflow-add-i invariant_loop decreases_loop
+add_i c = search rules
 
-loop-less : tie.Need-loop-less Inv-loop μ-loop
-loop-less c = search needs
+loop_less : tie.Need-loop-smaller invariant_loop decreases_loop
+loop_less c = search rules
 
-loop-again : tie.Need-loop-again Inv-loop μ-loop
-loop-again c =
-    let l = c .before .before .before in
-    (search needs, below-more _ _ (l .loop .inv .1) (le-leb _ _ (c .if1 .left)))
+loop_again : tie.Need-loop-preserved invariant_loop decreases_loop
+loop_again c =
+    let l = c.before.before.before in
+    (search rules, below_more _ _ l.loop.invariant.1 (le-leb _ _ c.if1.false))
 
-returns-2 : tie.Need-returns-2 Inv-loop μ-loop
-returns-2 c =
-    let l = c .before in
-    sym (first-bad-is (λ k. co2InRange (getD (l .before .args .co2 .now) k 0)) _ (l .loop .i) (record { within = l .loop .inv .0; before = l .loop .inv .1; there = λ (h : l .loop .i < length (l .before .args .co2 .now)). absurd (omega arith) }))
+returns_2 : tie.Need-returns-2 invariant_loop decreases_loop
+returns_2 c =
+    let l = c.before in
+    sym (first_bad_is (λ k. co2_in_range (get_or l.before.args.co2.now k 0)) _ l.loop.i (record { within = l.loop.invariant.0; before = l.loop.invariant.1; there = λ (h : l.loop.i < length l.before.args.co2.now). absurd (omega arith) }))
 
-pub first-out-of-range-spec : {M : Type 1} → statement M
-first-out-of-range-spec =
+pub first_out_of_range_spec : {M : Type 1} → statement M
+first_out_of_range_spec =
     tie.close
     (tie.spec
-    Inv-loop
-    μ-loop
-    loop-holds
-    mul-if1
-    shared-slice-read-if1
+    invariant_loop
+    decreases_loop
+    loop_holds
+    mul_if1
+    shared_slice_read_if1
     returns
-    add-i
-    loop-less
-    loop-again
-    returns-2)
+    add_i
+    loop_less
+    loop_again
+    returns_2)

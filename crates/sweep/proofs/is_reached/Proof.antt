@@ -1,87 +1,87 @@
 -- `sweep::is_reached` meets its contract: each early test finds a state astray, and the last two decide (`proofs/Local.antt`). Assumes nothing.
-use mathlib.Core.Path.{sym, _∙_}
+use mathlib.Core.Path.{sym, ◌∙◌}
 use native.Mathlib.Omega.{arith}
-use borrow.Author.Needs.{needs}
-use Rattle·sweep·proofs.proofs.Prefix.{first-within, part-sum}
-use Rattle·sweep·proofs.proofs.Local.{two-tests, too-far, out-of-order, miscounted, misweighed}
-use Rattle·sweep·proofs.proofs.is_reached.Statement.{statement}
-use Rattle·sweep·proofs.proofs.is_reached.Tie as tie
+use borrow.Author.Rules.{rules}
+use Rattle.sweep.proofs.Prefix.{first_within, part_sum}
+use Rattle.sweep.proofs.Local.{two_tests, too_far, out_of_order, miscounted, misweighed}
+use Rattle.sweep.proofs.is_reached.Statement.{statement}
+use Rattle.sweep.proofs.is_reached.Tie as tie
 
 returns : tie.Need-returns
-returns c = sym (too-far _ _ (c .before .before .pre .0) _ (c .if1 .taken))
+returns c = sym (too_far _ _ c.before.before.requires.0 _ c.if1.true)
 
-returns-2 : tie.Need-returns-2
-returns-2 c = sym (out-of-order _ _ (c .before .before .before .pre .0) _ (c .if2 .taken))
+returns_2 : tie.Need-returns-2
+returns_2 c = sym (out_of_order _ _ c.before.before.before.requires.0 _ c.if2.true)
 
-add-if3 : tie.Need-add-if3
-add-if3 c = search needs
+add_if3 : tie.Need-overflow-add-if3
+add_if3 c = search rules
 
-returns-3 : tie.Need-returns-3
-returns-3 c = sym (miscounted _ _ (c .before .before .before .before .before .pre .0) _ (c .if3 .taken))
+returns_3 : tie.Need-returns-3
+returns_3 c = sym (miscounted _ _ c.before.before.before.before.before.requires.0 _ c.if3.true)
 
-mul-total : tie.Need-mul-total
-mul-total c = search needs
+mul_total : tie.Need-overflow-mul-total
+mul_total c = search rules
 
-sub-total : tie.Need-sub-total
-sub-total c = search needs
+sub_total : tie.Need-overflow-sub-total
+sub_total c = search rules
 
-part-total-start : tie.Need-part-total-start
-part-total-start c = search needs
+part_total_start : tie.Need-slice-bounds-total-start
+part_total_start c = search rules
 
-part-total-end : tie.Need-part-total-end
-part-total-end c = search needs
+part_total_end : tie.Need-slice-bounds-total-end
+part_total_end c = search rules
 
-total-requires : tie.Need-total-requires
-total-requires c κs =
-    let start = c .before .before .before .before .before .before in
-    let state = start .args .state in
+total_requires : tie.Need-total-requires
+total_requires c κs =
+    let start = c.before.before.before.before.before.before in
+    let state = start.args.state in
     omega
-    (arith, part-sum (state .dropped) (state .taken) (start .args .co2 .now) (c .before .before .before .if2 .left), first-within (state .taken) (start .args .co2 .now), start .pre .1 .light)
+    (arith, part_sum state.dropped state.taken start.args.co2.now c.before.before.before.if2.false, first_within state.taken start.args.co2.now, start.requires.1.light)
 
-cast-if4 : tie.Need-cast-if4
-cast-if4 c = search needs
+cast_if4 : tie.Need-overflow-cast-if4
+cast_if4 c = search rules
 
-returns-4 : tie.Need-returns-4
-returns-4 c =
-    let start = c .before .before .before .before .before .before .before .before in
-    sym (misweighed _ _ (start .pre .0) (start .args .state) (c .before .before .before .before .before .if2 .left) (λ e. c .if4 .taken (e ∙ sym (c .before .total .ensures))))
+returns_4 : tie.Need-returns-4
+returns_4 c =
+    let start = c.before.before.before.before.before.before.before.before in
+    sym (misweighed _ _ start.requires.0 start.args.state c.before.before.before.before.before.if2.false (λ e. c.if4.true (e ∙ sym c.before.total.ensures)))
 
-closed-rightly-requires : tie.Need-closed-rightly-requires
-closed-rightly-requires c κs =
-    let start = c .before .before .before .before .before .before .before .before in
-    omega (arith, c .if4 .left, c .before .total .ok, c .before .before .before .before .before .if2 .left, c .before .before .before .before .before .before .if1 .left)
+closed_rightly_requires : tie.Need-closed-rightly-requires
+closed_rightly_requires c κs =
+    let start = c.before.before.before.before.before.before.before.before in
+    omega (arith, c.if4.false, c.before.total.type-inv, c.before.before.before.before.before.if2.false, c.before.before.before.before.before.before.if1.false)
 
-needed-last-requires : tie.Need-needed-last-requires
-needed-last-requires c κs = c .before .before .before .before .before .before .before .if1 .left
+needed_last_requires : tie.Need-needed-last-requires
+needed_last_requires c κs = c.before.before.before.before.before.before.before.if1.false
 
-returns-5 : tie.Need-returns-5
-returns-5 c =
-    let start = c .before .before .before .before .before .before .before .before .before .before in
-    let state = start .args .state in
-    rw (c .before .closed-rightly .ensures, c .needed-last .ensures)
-    (two-tests _ _ (start .pre .0) state
+returns_5 : tie.Need-returns-5
+returns_5 c =
+    let start = c.before.before.before.before.before.before.before.before.before.before in
+    let state = start.args.state in
+    rw (c.before.closed_rightly.ensures, c.needed_last.ensures)
+    (two_tests _ _ start.requires.0 state
     (record {
-      counted = c .before .before .before .before .before .if3 .left;
-      order = c .before .before .before .before .before .before .before .if2 .left;
-      within = c .before .before .before .before .before .before .before .before .if1 .left;
-      weighed = c .before .before .if4 .left ∙ c .before .before .before .total .ensures;
+      counted = c.before.before.before.before.before.if3.false;
+      order = c.before.before.before.before.before.before.before.if2.false;
+      within = c.before.before.before.before.before.before.before.before.if1.false;
+      weighed = c.before.before.if4.false ∙ c.before.before.before.total.ensures;
     }))
 
-pub is-reached-spec : {M : Type 1} → statement M
-is-reached-spec =
+pub is_reached_spec : {M : Type 1} → statement M
+is_reached_spec =
     tie.close
     (tie.spec
     returns
-    returns-2
-    add-if3
-    returns-3
-    mul-total
-    sub-total
-    part-total-start
-    part-total-end
-    total-requires
-    cast-if4
-    returns-4
-    closed-rightly-requires
-    needed-last-requires
-    returns-5)
+    returns_2
+    add_if3
+    returns_3
+    mul_total
+    sub_total
+    part_total_start
+    part_total_end
+    total_requires
+    cast_if4
+    returns_4
+    closed_rightly_requires
+    needed_last_requires
+    returns_5)

@@ -1,41 +1,41 @@
 -- `sweep::needed_last` meets its contract: nothing was taken, or the test is the definition's. Assumes nothing.
-use Prim.Native.Nat.{_-_}
+use Prim.Native.Nat.{◌-◌}
 use mathlib.Core.Path.{refl}
 use native.Mathlib.Omega.{arith}
-use borrow.Author.Tests.{eq-eqb, ne-eqb}
-use borrow.Author.Needs.{needs}
-use Rattle·sweep·proofs.proofs.needed_last.Statement.{statement}
-use Rattle·sweep·proofs.proofs.needed_last.Tie as tie
+use borrow.Author.Tests.{eq-eqb, ne_eqb}
+use borrow.Author.Rules.{rules}
+use Rattle.sweep.proofs.needed_last.Statement.{statement}
+use Rattle.sweep.proofs.needed_last.Tie as tie
 
 returns : tie.Need-returns
-returns c = rw (eq-eqb _ _ (c .if1 .taken))
+returns c = rw (eq-eqb _ _ c.if1.true)
 
-sub-result : tie.Need-sub-result
-sub-result c = search needs
+sub_result : tie.Need-overflow-sub-result
+sub_result c = search rules
 
-mul-result : tie.Need-mul-result
-mul-result c = search needs
+mul_result : tie.Need-overflow-mul-result
+mul_result c = search rules
 
-shared-slice-read-result : tie.Need-shared-slice-read-result
-shared-slice-read-result c = search needs
+shared_slice_read_result : tie.Need-shared-slice-read-result
+shared_slice_read_result c = search rules
 
-cast-result : tie.Need-cast-result
-cast-result c = omega (arith, c .shared-slice-known .given (c .before .before .args .taken - 1))
+cast_result : tie.Need-overflow-cast-result
+cast_result c = omega (arith, c.shared-slice-known.given (c.before.before.args.taken - 1))
 
-add-result : tie.Need-add-result
-add-result c = omega (arith, c .shared-slice-known .given (c .before .before .args .taken - 1))
+add_result : tie.Need-overflow-add-result
+add_result c = omega (arith, c.shared-slice-known.given (c.before.before.args.taken - 1))
 
-returns-2 : tie.Need-returns-2
-returns-2 c = rw (ne-eqb _ _ (c .before .if1 .left)) refl
+returns_2 : tie.Need-returns-2
+returns_2 c = rw (ne_eqb _ _ c.before.if1.false) refl
 
-pub needed-last-spec : {M : Type 1} → statement M
-needed-last-spec =
+pub needed_last_spec : {M : Type 1} → statement M
+needed_last_spec =
     tie.close
     (tie.spec
     returns
-    sub-result
-    mul-result
-    shared-slice-read-result
-    cast-result
-    add-result
-    returns-2)
+    sub_result
+    mul_result
+    shared_slice_read_result
+    cast_result
+    add_result
+    returns_2)

@@ -1,115 +1,115 @@
 -- `sweep::one_move` meets its contract: each return is one of the three things that a move can be, and a state that stands where
 -- the rule says keeps every number in its type. Assumes nothing.
-use Prim.Native.Nat.{_≤_, _<_}
+use Prim.Native.Nat.{◌≤◌, ◌<◌}
 use mathlib.Core.Path.{refl}
 use native.Mathlib.Omega.{arith}
 use borrow.Author.Tests.{le-leb, lt-leb, lt-ltb, le-ltb}
 use lib.ListN.{length}
-use Rattle·sweep·specs.specs.Sweep.{move, moveEnds}
-use Rattle·sweep·proofs.proofs.Moves.{open-window, first-held, mass-fits}
-use borrow.Author.Needs.{needs}
-use Rattle·sweep·proofs.proofs.one_move.Statement.{statement}
-use Rattle·sweep·proofs.proofs.one_move.Tie as tie
+use Rattle.sweep.specs.Sweep.{move, move_ends}
+use Rattle.sweep.proofs.Moves.{open_window, first_held, mass_fits}
+use borrow.Author.Rules.{rules}
+use Rattle.sweep.proofs.one_move.Statement.{statement}
+use Rattle.sweep.proofs.one_move.Tie as tie
 
 -- a window that is closed has reached the reference, so the second that is dropped is there
-full : (c : tie.Then1) → c .before .before .args .reference ≤ c .before .before .args .state .mass
+full : (c : tie.Then1) → c.before.before.args.reference ≤ c.before.before.args.state.mass
 full c = omega arith
 
-first-there : (c : tie.Then1) → c .before .before .args .state .dropped < length (c .before .before .args .co2 .now)
-first-there c =
-    let ready = c .before .before .pre in
-    omega (arith, open-window _ _ (ready .positive) (ready .stands) (full c), ready .stands .within)
+first_there : (c : tie.Then1) → c.before.before.args.state.dropped < length c.before.before.args.co2.now
+first_there c =
+    let ready = c.before.before.requires in
+    omega (arith, open_window _ _ ready.positive ready.stands (full c), ready.stands.within)
 
 -- otherwise it has not
-light : (c : tie.Else1) → c .before .before .args .state .mass < c .before .before .args .reference
+light : (c : tie.Else1) → c.before.before.args.state.mass < c.before.before.args.reference
 light c = omega arith
 
-add-moves : tie.Need-add-moves
-add-moves c = omega (arith, c .before .pre .stands, c .before .pre .masses)
+add_moves : tie.Need-overflow-add-moves
+add_moves c = omega (arith, c.before.requires.stands, c.before.requires.masses)
 
-cast-ends : tie.Need-cast-ends
-cast-ends c = omega (arith, c .before .before .pre .stands .within, c .before .before .pre .masses .few)
+cast_ends : tie.Need-overflow-cast-ends
+cast_ends c = omega (arith, c.before.before.requires.stands.within, c.before.before.requires.masses.few)
 
-mul-ends : tie.Need-mul-ends
-mul-ends c = search needs
+mul_ends : tie.Need-overflow-mul-ends
+mul_ends c = search rules
 
-slice-write-ends : tie.Need-slice-write-ends
-slice-write-ends c = omega (arith, first-there c, c .before .before .pre .places)
+slice_write_ends : tie.Need-slice-write-ends
+slice_write_ends c = omega (arith, first_there c, c.before.before.requires.places)
 
-add-t16 : tie.Need-add-t16
-add-t16 c = search needs
+add_t16 : tie.Need-overflow-add-t16
+add_t16 c = search rules
 
-mul-t14 : tie.Need-mul-t14
-mul-t14 c = search needs
+mul_t14 : tie.Need-overflow-mul-t14
+mul_t14 c = search rules
 
-shared-slice-read-t18 : tie.Need-shared-slice-read-t18
-shared-slice-read-t18 c = omega (arith, first-there (c .before))
+shared_slice_read_t18 : tie.Need-shared-slice-read-t18
+shared_slice_read_t18 c = omega (arith, first_there c.before)
 
-cast-t19 : tie.Need-cast-t19
-cast-t19 c = omega (arith, c .shared-slice-known .given (c .before .before .before .args .state .dropped))
+cast_t19 : tie.Need-overflow-cast-t19
+cast_t19 c = omega (arith, c.shared-slice-known.given c.before.before.before.args.state.dropped)
 
-sub-t20 : tie.Need-sub-t20
-sub-t20 c =
-    let ready = c .before .before .before .pre in
-    first-held _ _ (ready .positive) (ready .stands) (full (c .before))
+sub_t20 : tie.Need-overflow-sub-t20
+sub_t20 c =
+    let ready = c.before.before.before.requires in
+    first_held _ _ ready.positive ready.stands (full c.before)
 
-same-length : tie.Need-same-length
-same-length c = search needs
+same_length : tie.Need-same-length
+same_length c = search rules
 
 returns : tie.Need-returns
-unfolding move moveEnds
-returns c = simp (le-leb _ _ (full (c .before))) (refl, refl)
+unfolding move move_ends
+returns c = simp (le-leb _ _ (full c.before)) (refl, refl)
 
-add-t22 : tie.Need-add-t22
-add-t22 c = search needs
+add_t22 : tie.Need-overflow-add-t22
+add_t22 c = search rules
 
-mul-t23 : tie.Need-mul-t23
-mul-t23 c = search needs
+mul_t23 : tie.Need-overflow-mul-t23
+mul_t23 c = search rules
 
-shared-slice-read-t25 : tie.Need-shared-slice-read-t25
-shared-slice-read-t25 c = search needs
+shared_slice_read_t25 : tie.Need-shared-slice-read-t25
+shared_slice_read_t25 c = search rules
 
-cast-t26 : tie.Need-cast-t26
-cast-t26 c = omega (arith, c .shared-slice-known2 .given (c .before .before .before .before .args .state .taken))
+cast_t26 : tie.Need-overflow-cast-t26
+cast_t26 c = omega (arith, c.shared-slice-known2.given c.before.before.before.before.args.state.taken)
 
-add-t27 : tie.Need-add-t27
-add-t27 c =
-    let ready = c .before .before .before .before .pre in
-    omega (arith, c .shared-slice-known2 .given (c .before .before .before .before .args .state .taken), mass-fits _ _ (ready .masses) (ready .stands))
+add_t27 : tie.Need-overflow-add-t27
+add_t27 c =
+    let ready = c.before.before.before.before.requires in
+    omega (arith, c.shared-slice-known2.given c.before.before.before.before.args.state.taken, mass_fits _ _ ready.masses ready.stands)
 
-returns-2 : tie.Need-returns-2
-unfolding move moveEnds
-returns-2 c =
-    let a = c .before .before .before .before .args in
-    let more : a .state .taken < length (a .co2 .now) = omega arith in
-    simp (lt-leb _ _ (light (c .before .before)), lt-ltb _ _ more) (refl, refl)
+returns_2 : tie.Need-returns-2
+unfolding move move_ends
+returns_2 c =
+    let a = c.before.before.before.before.args in
+    let more : a.state.taken < length a.co2.now = omega arith in
+    simp (lt-leb _ _ (light c.before.before), lt-ltb _ _ more) (refl, refl)
 
-returns-3 : tie.Need-returns-3
-unfolding move moveEnds
-returns-3 c =
-    let a = c .before .before .before .args in
-    let none-left : length (a .co2 .now) ≤ a .state .taken = omega arith in
-    simp (lt-leb _ _ (light (c .before)), le-ltb _ _ none-left) (refl, refl)
+returns_3 : tie.Need-returns-3
+unfolding move move_ends
+returns_3 c =
+    let a = c.before.before.before.args in
+    let none_left : length a.co2.now ≤ a.state.taken = omega arith in
+    simp (lt-leb _ _ (light c.before), le-ltb _ _ none_left) (refl, refl)
 
-pub one-move-spec : {M : Type 1} → statement M
-one-move-spec =
+pub one_move_spec : {M : Type 1} → statement M
+one_move_spec =
     tie.close
     (tie.spec
-    add-moves
-    cast-ends
-    mul-ends
-    slice-write-ends
-    add-t16
-    mul-t14
-    shared-slice-read-t18
-    cast-t19
-    sub-t20
-    same-length
+    add_moves
+    cast_ends
+    mul_ends
+    slice_write_ends
+    add_t16
+    mul_t14
+    shared_slice_read_t18
+    cast_t19
+    sub_t20
+    same_length
     returns
-    add-t22
-    mul-t23
-    shared-slice-read-t25
-    cast-t26
-    add-t27
-    returns-2
-    returns-3)
+    add_t22
+    mul_t23
+    shared_slice_read_t25
+    cast_t26
+    add_t27
+    returns_2
+    returns_3)

@@ -1,110 +1,110 @@
 -- `sweep::total` meets its contract: after i steps the first i masses of each half are added (`Halves` of `proofs/Prefix.antt`). Assumes nothing.
-use Prim.Native.Nat.{_+_, _-_, _/_, _≤_}
-use mathlib.Core.Path.{_≡_}
+use Prim.Native.Nat.{◌+◌, ◌-◌, ◌/◌, ◌≤◌}
+use mathlib.Core.Path.{◌≡◌}
 use native.Mathlib.Omega.{arith}
-use lib.ListN.{length, getD}
-use Rattle·base.specs.Words.{sum}
-use Rattle·sweep·proofs.proofs.Prefix.{Halves, halves-none, halves-more, halves-most, halves-even, halves-odd}
-use borrow.Author.Needs.{needs}
-use Rattle·sweep·proofs.proofs.total.Statement.{statement}
-use Rattle·sweep·proofs.proofs.total.Tie as tie
+use lib.ListN.{length, get_or}
+use Rattle.base.specs.Words.{sum}
+use Rattle.sweep.proofs.Prefix.{Halves, halves_none, halves_more, halves_most, halves_even, halves_odd}
+use borrow.Author.Rules.{rules}
+use Rattle.sweep.proofs.total.Statement.{statement}
+use Rattle.sweep.proofs.total.Tie as tie
 
-abbrev Inv-loop : tie.InvT-loop
-Inv-loop co2 half mass₀ i₀ mass i = Halves co2 half i mass
+abbrev invariant_loop : tie.invariant-loop
+invariant_loop co2 half mass₀ i₀ mass i = Halves co2 half i mass
 
-abbrev μ-loop : tie.MeasureT-loop
-μ-loop co2 half mass₀ i₀ mass i = half - i
+abbrev decreases_loop : tie.decreases-loop
+decreases_loop co2 half mass₀ i₀ mass i = half - i
 
 -- what a turn adds keeps within the sum
-most : (c : tie.In-loop Inv-loop μ-loop) → c .before .loop .mass + (getD (c .before .before .args .co2 .now) (c .before .loop .i) 0 + getD (c .before .before .args .co2 .now) (length (c .before .before .args .co2 .now) / 2 + c .before .loop .i) 0) ≤ sum (c .before .before .args .co2 .now)
-most c = halves-most _ _ _ _ (c .before .loop .inv) (omega arith) (c .loop-test .taken)
+most : (c : tie.In-loop invariant_loop decreases_loop) → c.before.loop.mass + (get_or c.before.before.args.co2.now c.before.loop.i 0 + get_or c.before.before.args.co2.now (length c.before.before.args.co2.now / 2 + c.before.loop.i) 0) ≤ sum c.before.before.args.co2.now
+most c = halves_most _ _ _ _ c.before.loop.invariant (omega arith) c.loop-test.true
 
 -- after the loop both halves are added, but for a last mass
-ended : (c : tie.After-loop Inv-loop μ-loop) → Halves (c .before .before .args .co2 .now) (length (c .before .before .args .co2 .now) / 2) (length (c .before .before .args .co2 .now) / 2) (c .before .loop .mass)
+ended : (c : tie.After-loop invariant_loop decreases_loop) → Halves c.before.before.args.co2.now (length c.before.before.args.co2.now / 2) (length c.before.before.args.co2.now / 2) c.before.loop.mass
 ended c =
-    let all : c .before .loop .i ≡ length (c .before .before .args .co2 .now) / 2 = omega (arith, c .before .loop .inv .within) in
-    rw all at (c .before .loop .inv)
+    let all : c.before.loop.i ≡ length c.before.before.args.co2.now / 2 = omega (arith, c.before.loop.invariant.within) in
+    rw all at c.before.loop.invariant
 
-odd : (c : tie.After-shared-slice-known3 Inv-loop μ-loop) → c .before .before .before .loop .mass + getD (c .before .before .before .before .args .co2 .now) (length (c .before .before .before .before .args .co2 .now) / 2 + length (c .before .before .before .before .args .co2 .now) / 2) 0 ≡ sum (c .before .before .before .before .args .co2 .now)
-odd c = halves-odd _ _ _ (ended (c .before .before)) (omega (arith, c .before .if1 .left))
+odd : (c : tie.After-shared-slice-known3 invariant_loop decreases_loop) → c.before.before.before.loop.mass + get_or c.before.before.before.before.args.co2.now (length c.before.before.before.before.args.co2.now / 2 + length c.before.before.before.before.args.co2.now / 2) 0 ≡ sum c.before.before.before.before.args.co2.now
+odd c = halves_odd _ _ _ (ended c.before.before) (omega (arith, c.before.if1.false))
 
-loop-holds : tie.Need-loop-holds Inv-loop μ-loop
-loop-holds c = halves-none _ _
+loop_holds : tie.Need-loop-init invariant_loop decreases_loop
+loop_holds c = halves_none _ _
 
-mul-mass : tie.Need-mul-mass Inv-loop μ-loop
-mul-mass c = search needs
+mul_mass : tie.Need-overflow-mul-mass invariant_loop decreases_loop
+mul_mass c = search rules
 
-shared-slice-read-mass : tie.Need-shared-slice-read-mass Inv-loop μ-loop
-shared-slice-read-mass c = search needs
+shared_slice_read_mass : tie.Need-shared-slice-read-mass invariant_loop decreases_loop
+shared_slice_read_mass c = search rules
 
-add-mass : tie.Need-add-mass Inv-loop μ-loop
-add-mass c = search needs
+add_mass : tie.Need-overflow-add-mass invariant_loop decreases_loop
+add_mass c = search rules
 
-mul-mass-2 : tie.Need-mul-mass-2 Inv-loop μ-loop
-mul-mass-2 c = search needs
+mul_mass_2 : tie.Need-overflow-mul-mass-2 invariant_loop decreases_loop
+mul_mass_2 c = search rules
 
-shared-slice-read-mass-2 : tie.Need-shared-slice-read-mass-2 Inv-loop μ-loop
-shared-slice-read-mass-2 c = search needs
+shared_slice_read_mass_2 : tie.Need-shared-slice-read-mass-2 invariant_loop decreases_loop
+shared_slice_read_mass_2 c = search rules
 
-add-mass-2 : tie.Need-add-mass-2 Inv-loop μ-loop
-add-mass-2 c = omega (arith, most (c .before .before))
+add_mass_2 : tie.Need-overflow-add-mass-2 invariant_loop decreases_loop
+add_mass_2 c = omega (arith, most c.before.before)
 
-add-mass-3 : tie.Need-add-mass-3 Inv-loop μ-loop
-add-mass-3 c = omega (arith, most (c .before .before))
+add_mass_3 : tie.Need-overflow-add-mass-3 invariant_loop decreases_loop
+add_mass_3 c = omega (arith, most c.before.before)
 
-add-i : tie.Need-add-i Inv-loop μ-loop
-add-i c = search needs
+add_i : tie.Need-overflow-add-i invariant_loop decreases_loop
+add_i c = search rules
 
-loop-less : tie.Need-loop-less Inv-loop μ-loop
-loop-less c = search needs
+loop_less : tie.Need-loop-smaller invariant_loop decreases_loop
+loop_less c = search rules
 
-loop-again : tie.Need-loop-again Inv-loop μ-loop
-loop-again c =
-    let l = c .before .before in
-    halves-more _ _ _ _ (l .before .loop .inv) (omega arith) (l .loop-test .taken)
+loop_again : tie.Need-loop-preserved invariant_loop decreases_loop
+loop_again c =
+    let l = c.before.before in
+    halves_more _ _ _ _ l.before.loop.invariant (omega arith) l.loop-test.true
 
-add-if1 : tie.Need-add-if1 Inv-loop μ-loop
-add-if1 c = search needs
+add_if1 : tie.Need-overflow-add-if1 invariant_loop decreases_loop
+add_if1 c = search rules
 
-returns : tie.Need-returns Inv-loop μ-loop
-returns c = halves-even _ _ _ (ended (c .before)) (c .if1 .taken)
+returns : tie.Need-returns invariant_loop decreases_loop
+returns c = halves_even _ _ _ (ended c.before) c.if1.true
 
-add-result : tie.Need-add-result Inv-loop μ-loop
-add-result c = search needs
+add_result : tie.Need-overflow-add-result invariant_loop decreases_loop
+add_result c = search rules
 
-mul-result : tie.Need-mul-result Inv-loop μ-loop
-mul-result c = search needs
+mul_result : tie.Need-overflow-mul-result invariant_loop decreases_loop
+mul_result c = search rules
 
-shared-slice-read-result : tie.Need-shared-slice-read-result Inv-loop μ-loop
-shared-slice-read-result c = search needs
+shared_slice_read_result : tie.Need-shared-slice-read-result invariant_loop decreases_loop
+shared_slice_read_result c = search rules
 
-add-result-2 : tie.Need-add-result-2 Inv-loop μ-loop
-add-result-2 c = omega (arith, odd c, c .before .before .before .before .pre)
+add_result_2 : tie.Need-overflow-add-result-2 invariant_loop decreases_loop
+add_result_2 c = omega (arith, odd c, c.before.before.before.before.requires)
 
-returns-2 : tie.Need-returns-2 Inv-loop μ-loop
-returns-2 c = odd c
+returns_2 : tie.Need-returns-2 invariant_loop decreases_loop
+returns_2 c = odd c
 
-pub total-spec : {M : Type 1} → statement M
-total-spec =
+pub total_spec : {M : Type 1} → statement M
+total_spec =
     tie.close
     (tie.spec
-    Inv-loop
-    μ-loop
-    loop-holds
-    mul-mass
-    shared-slice-read-mass
-    add-mass
-    mul-mass-2
-    shared-slice-read-mass-2
-    add-mass-2
-    add-mass-3
-    add-i
-    loop-less
-    loop-again
-    add-if1
+    invariant_loop
+    decreases_loop
+    loop_holds
+    mul_mass
+    shared_slice_read_mass
+    add_mass
+    mul_mass_2
+    shared_slice_read_mass_2
+    add_mass_2
+    add_mass_3
+    add_i
+    loop_less
+    loop_again
+    add_if1
     returns
-    add-result
-    mul-result
-    shared-slice-read-result
-    add-result-2
-    returns-2)
+    add_result
+    mul_result
+    shared_slice_read_result
+    add_result_2
+    returns_2)

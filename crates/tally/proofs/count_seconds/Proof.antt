@@ -1,69 +1,69 @@
 -- `tally::count_seconds` meets its contract: the counts and the gap are those of the first i seconds. Assumes nothing.
-use borrow.Author.Needs.{needs}
-use Prim.Native.Nat.{_+_, _-_, _≤_}
-use mathlib.Core.Path.{_≡_, sym, _∙_, ap}
+use borrow.Author.Rules.{rules}
+use Prim.Native.Nat.{◌+◌, ◌-◌, ◌≤◌}
+use mathlib.Core.Path.{◌≡◌, sym, ◌∙◌, ap}
 use native.Mathlib.Omega.{arith}
 use lib.ListN.{length}
-use Rattle·tally·specs.specs.Counts.{countsAfter, gapAfter}
-use Rattle·tally·proofs.proofs.Gaps.{gap-at-most}
-use Rattle·tally·proofs.proofs.Seconds.{gap-none, gap-more, counts-none, counts-more, counts-few}
-use Rattle·tally·proofs.proofs.count_seconds.Statement.{statement}
-use Rattle·tally·proofs.proofs.count_seconds.Tie as tie
+use Rattle.tally.specs.Counts.{counts_after, gap_after}
+use Rattle.tally.proofs.Gaps.{gap_at_most}
+use Rattle.tally.proofs.Seconds.{gap_none, gap_more, counts_none, counts_more, counts_few}
+use Rattle.tally.proofs.count_seconds.Statement.{statement}
+use Rattle.tally.proofs.count_seconds.Tie as tie
 
-abbrev Inv-loop : tie.InvT-loop
-Inv-loop states speeds counts₀ gap₀ i₀ counts gap i = (i ≤ length states) × (counts ≡ countsAfter states speeds i) × (gap ≡ gapAfter states i)
+abbrev invariant_loop : tie.invariant-loop
+invariant_loop states speeds counts₀ gap₀ i₀ counts gap i = (i ≤ length states) × (counts ≡ counts_after states speeds i) × (gap ≡ gap_after states i)
 
-abbrev μ-loop : tie.MeasureT-loop
-μ-loop states speeds counts₀ gap₀ i₀ counts gap i = length states - i
+abbrev decreases_loop : tie.decreases-loop
+decreases_loop states speeds counts₀ gap₀ i₀ counts gap i = length states - i
 
-loop-holds : tie.Need-loop-holds Inv-loop μ-loop
-loop-holds c = (omega arith, sym (counts-none _ _), sym (gap-none _))
+loop_holds : tie.Need-loop-init invariant_loop decreases_loop
+loop_holds c = (omega arith, sym (counts_none _ _), sym (gap_none _))
 
-shared-slice-read-state : tie.Need-shared-slice-read-state Inv-loop μ-loop
-shared-slice-read-state c = search needs
+shared_slice_read_state : tie.Need-shared-slice-read-state invariant_loop decreases_loop
+shared_slice_read_state c = search rules
 
-gap-with-requires : tie.Need-gap-with-requires Inv-loop μ-loop
-gap-with-requires c κs = omega (arith, gap-at-most (c .before .before .before .before .before .args .states .now) (c .before .before .loop .i))
+gap_with_requires : tie.Need-gap-with-requires invariant_loop decreases_loop
+gap_with_requires c κs = omega (arith, gap_at_most c.before.before.before.before.before.args.states.now c.before.before.loop.i)
 
-mul-counts-with : tie.Need-mul-counts-with Inv-loop μ-loop
-mul-counts-with c = search needs
+mul_counts_with : tie.Need-overflow-mul-counts-with invariant_loop decreases_loop
+mul_counts_with c = search rules
 
-shared-slice-read-counts-with : tie.Need-shared-slice-read-counts-with Inv-loop μ-loop
-shared-slice-read-counts-with c = search needs
+shared_slice_read_counts_with : tie.Need-shared-slice-read-counts-with invariant_loop decreases_loop
+shared_slice_read_counts_with c = search rules
 
-counts-with-requires : tie.Need-counts-with-requires Inv-loop μ-loop
-counts-with-requires c κs = rw (c .before .before .before .before .loop .inv .1) (counts-few _ _ _ (omega arith))
+counts_with_requires : tie.Need-counts-with-requires invariant_loop decreases_loop
+counts_with_requires c κs = rw c.before.before.before.before.loop.invariant.1 (counts_few _ _ _ (omega arith))
 
-add-i : tie.Need-add-i Inv-loop μ-loop
-add-i c = search needs
+add_i : tie.Need-overflow-add-i invariant_loop decreases_loop
+add_i c = search rules
 
-loop-less : tie.Need-loop-less Inv-loop μ-loop
-loop-less c = search needs
+loop_less : tie.Need-loop-smaller invariant_loop decreases_loop
+loop_less c = search rules
 
-loop-again : tie.Need-loop-again Inv-loop μ-loop
-loop-again c =
-    let l = c .before .before .before .before .before .loop in
-    let ends : c .before .before .gap-with .result ≡ gapAfter (c .before .before .before .before .before .before .before .before .args .states .now) (l .i + 1) = rw (gap-more, ← l .inv .2) (c .before .before .gap-with .ensures) in
-    (omega arith, rw (counts-more, ← l .inv .1, ← ends) (c .counts-with .ensures), ends)
+loop_again : tie.Need-loop-preserved invariant_loop decreases_loop
+loop_again c =
+    let l = c.before.before.before.before.before.loop in
+    let ends : c.before.before.gap_with.result ≡ gap_after c.before.before.before.before.before.before.before.before.args.states.now (l.i + 1) = rw (gap_more, ← l.invariant.2) c.before.before.gap_with.ensures in
+    (omega arith, rw (counts_more, ← l.invariant.1, ← ends) c.Counts_with.ensures, ends)
 
-returns : tie.Need-returns Inv-loop μ-loop
+returns : tie.Need-returns invariant_loop decreases_loop
 returns c =
-    let all : c .before .loop .i ≡ length (c .before .before .before .before .args .states .now) = omega arith in
-    c .before .loop .inv .1 ∙ ap (countsAfter _ _) all
+    let all : c.before.loop.i ≡ length c.before.before.before.before.args.states.now = omega arith in
+    c.before.loop.invariant.1 ∙ ap (counts_after _ _) all
 
-pub count-seconds-spec : {M : Type 1} → statement M
-count-seconds-spec =
+pub count_seconds_spec : {M : Type 1} → statement M
+count_seconds_spec =
     tie.close
     (tie.spec
-    Inv-loop
-    μ-loop
-    loop-holds
-    shared-slice-read-state
-    gap-with-requires
-    mul-counts-with
-    shared-slice-read-counts-with
-    counts-with-requires
-    add-i
-    loop-less
-    loop-again
+    invariant_loop
+    decreases_loop
+    loop_holds
+    shared_slice_read_state
+    gap_with_requires
+    mul_counts_with
+    shared_slice_read_counts_with
+    counts_with_requires
+    add_i
+    loop_less
+    loop_again
     returns)

@@ -1,17 +1,17 @@
 -- `tally::gap_with` meets its contract: its test is that of the definition. Assumes nothing.
-use borrow.Author.Needs.{needs}
-use borrow.Author.Tests.{eq-eqb, ne-eqb}
-use Rattle·tally·proofs.proofs.gap_with.Statement.{statement}
-use Rattle·tally·proofs.proofs.gap_with.Tie as tie
+use borrow.Author.Rules.{rules}
+use borrow.Author.Tests.{eq-eqb, ne_eqb}
+use Rattle.tally.proofs.gap_with.Statement.{statement}
+use Rattle.tally.proofs.gap_with.Tie as tie
 
-add-result : tie.Need-add-result
-add-result c = search needs
+add_result : tie.Need-overflow-add-result
+add_result c = search rules
 
 returns : tie.Need-returns
-returns c = simp (eq-eqb _ _ (c .if1 .taken))
+returns c = simp (eq-eqb _ _ c.if1.true)
 
-returns-2 : tie.Need-returns-2
-returns-2 c = simp (ne-eqb _ _ (c .if1 .left))
+returns_2 : tie.Need-returns-2
+returns_2 c = simp (ne_eqb _ _ c.if1.false)
 
-pub gap-with-spec : {M : Type 1} → statement M
-gap-with-spec = tie.close (tie.spec add-result returns returns-2)
+pub gap_with_spec : {M : Type 1} → statement M
+gap_with_spec = tie.close (tie.spec add_result returns returns_2)

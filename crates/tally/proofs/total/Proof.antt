@@ -1,77 +1,77 @@
 -- `tally::total` meets its contract: the sums are those of the definition, and fit because the whole does. Assumes nothing.
-use borrow.Author.Needs.{needs}
+use borrow.Author.Rules.{rules}
 use mathlib.Core.Path.{refl}
-use Rattle·tally·specs.specs.Inside.{added}
-use Rattle·tally·proofs.proofs.total.Statement.{statement}
-use Rattle·tally·proofs.proofs.total.Tie as tie
+use Rattle.tally.specs.Inside.{added}
+use Rattle.tally.proofs.total.Statement.{statement}
+use Rattle.tally.proofs.total.Tie as tie
 
 -- where the call began, seen from the masses: only this line counts what stands between
 abbrev began : tie.After-struct-known11 → tie.Start
-began c = c .before .before .before .before .before .before .before .before .before .before .before .before .before .before
+began c = c.before.before.before.before.before.before.before.before.before.before.before.before.before.before
 
-array-copy-out-urban : tie.Need-array-copy-out-urban
-array-copy-out-urban c = search needs
+array_copy_out_urban : tie.Need-array-copy-out-urban
+array_copy_out_urban c = search rules
 
-array-copy-out-rural : tie.Need-array-copy-out-rural
-array-copy-out-rural c = search needs
+array_copy_out_rural : tie.Need-array-copy-out-rural
+array_copy_out_rural c = search rules
 
-array-copy-out-motorway : tie.Need-array-copy-out-motorway
-array-copy-out-motorway c = search needs
+array_copy_out_motorway : tie.Need-array-copy-out-motorway
+array_copy_out_motorway c = search rules
 
-add-t15 : tie.Need-add-t15
+add_t15 : tie.Need-overflow-add-t15
 unfolding added
-add-t15 c = search needs
+add_t15 c = search rules
 
-add-t16 : tie.Need-add-t16
+add_t16 : tie.Need-overflow-add-t16
 unfolding added
-add-t16 c = search needs
+add_t16 c = search rules
 
-add-t17 : tie.Need-add-t17
+add_t17 : tie.Need-overflow-add-t17
 unfolding added
-add-t17 c = search needs
+add_t17 c = search rules
 
-add-t18 : tie.Need-add-t18
+add_t18 : tie.Need-overflow-add-t18
 unfolding added
-add-t18 c = search needs
+add_t18 c = search rules
 
-add-t19 : tie.Need-add-t19
+add_t19 : tie.Need-overflow-add-t19
 unfolding added
-add-t19 c = search (needs, began c .pre)
+add_t19 c = search (rules, (began c).requires)
 
-add-t20 : tie.Need-add-t20
+add_t20 : tie.Need-overflow-add-t20
 unfolding added
-add-t20 c = search (needs, began (c .before) .pre)
+add_t20 c = search (rules, (began c.before).requires)
 
-add-t21 : tie.Need-add-t21
+add_t21 : tie.Need-overflow-add-t21
 unfolding added
-add-t21 c = search (needs, began (c .before .before .before) .pre)
+add_t21 c = search (rules, (began c.before.before.before).requires)
 
-add-t22 : tie.Need-add-t22
+add_t22 : tie.Need-overflow-add-t22
 unfolding added
-add-t22 c = search (needs, began (c .before .before .before .before) .pre)
+add_t22 c = search (rules, (began c.before.before.before.before).requires)
 
-sum-if-requires : tie.Need-sum-if-requires
+sum_if_requires : tie.Need-sum-if-requires
 unfolding added
-sum-if-requires c κs = began (c .before .before .before .before) .pre .particles
+sum_if_requires c κs = (began c.before.before.before.before).requires.particles
 
 returns : tie.Need-returns
 unfolding added
-returns c = rw (c .sum-if .ensures) refl
+returns c = rw c.sum_if.ensures refl
 
-pub total-spec : {M : Type 1} → statement M
-total-spec =
+pub total_spec : {M : Type 1} → statement M
+total_spec =
     tie.close
     (tie.spec
-    array-copy-out-urban
-    array-copy-out-rural
-    array-copy-out-motorway
-    add-t15
-    add-t16
-    add-t17
-    add-t18
-    add-t19
-    add-t20
-    add-t21
-    add-t22
-    sum-if-requires
+    array_copy_out_urban
+    array_copy_out_rural
+    array_copy_out_motorway
+    add_t15
+    add_t16
+    add_t17
+    add_t18
+    add_t19
+    add_t20
+    add_t21
+    add_t22
+    sum_if_requires
     returns)

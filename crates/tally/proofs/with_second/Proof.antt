@@ -1,75 +1,75 @@
 -- `tally::with_second` meets its contract: a missing second changes nothing, another adds what the definition adds. Assumes nothing.
-use borrow.Author.Needs.{needs}
-use mathlib.Core.Path.{refl, sym, _∙_}
+use borrow.Author.Rules.{rules}
+use mathlib.Core.Path.{refl, sym, ◌∙◌}
 use borrow.Author.Tests.{not-true, not-false}
-use Rattle·tally·specs.specs.Inside.{withSecond}
-use Rattle·tally·proofs.proofs.with_second.Statement.{statement}
-use Rattle·tally·proofs.proofs.with_second.Tie as tie
+use Rattle.tally.specs.Inside.{with_second}
+use Rattle.tally.proofs.with_second.Statement.{statement}
+use Rattle.tally.proofs.with_second.Tie as tie
 
-lacks-count-requires : tie.Need-lacks-count-requires
-lacks-count-requires c κs = search needs
+lacks_count_requires : tie.Need-lacks-count-requires
+lacks_count_requires c κs = search rules
 
-has-values-requires : tie.Need-has-values-requires
-has-values-requires c κs = search needs
+has_values_requires : tie.Need-has-values-requires
+has_values_requires c κs = search rules
 
 returns : tie.Need-returns
-unfolding withSecond
-returns c = rw (sym (c .before .has-values .ensures) ∙ not-true _ (c .if1 .taken)) refl
+unfolding with_second
+returns c = rw (sym c.before.has_values.ensures ∙ not-true _ c.if1.true) refl
 
-add-t16 : tie.Need-add-t16
-add-t16 c = search needs
+add_t16 : tie.Need-overflow-add-t16
+add_t16 c = search rules
 
-add-t18 : tie.Need-add-t18
-add-t18 c = search needs
+add_t18 : tie.Need-overflow-add-t18
+add_t18 c = search rules
 
-mass-of-requires : tie.Need-mass-of-requires
-mass-of-requires c κs = search needs
+mass_of_requires : tie.Need-mass-of-requires
+mass_of_requires c κs = search rules
 
-cast-t20 : tie.Need-cast-t20
-cast-t20 c = search needs
+cast_t20 : tie.Need-overflow-cast-t20
+cast_t20 c = search rules
 
-add-t21 : tie.Need-add-t21
-add-t21 c = search needs
+add_t21 : tie.Need-overflow-add-t21
+add_t21 c = search rules
 
-mass-of-requires-2 : tie.Need-mass-of-requires-2
-mass-of-requires-2 c κs = search needs
+mass_of_requires_2 : tie.Need-mass-of-requires-2
+mass_of_requires_2 c κs = search rules
 
-cast-t23 : tie.Need-cast-t23
-cast-t23 c = search needs
+cast_t23 : tie.Need-overflow-cast-t23
+cast_t23 c = search rules
 
-add-t24 : tie.Need-add-t24
-add-t24 c = search needs
+add_t24 : tie.Need-overflow-add-t24
+add_t24 c = search rules
 
-count-of-requires : tie.Need-count-of-requires
-count-of-requires c κs = search needs
+count_of_requires : tie.Need-count-of-requires
+count_of_requires c κs = search rules
 
-add-total-if : tie.Need-add-total-if
-add-total-if c = search needs
+add_total_if : tie.Need-overflow-add-total-if
+add_total_if c = search rules
 
-total-if-requires : tie.Need-total-if-requires
-total-if-requires c κs = search needs
+total_if_requires : tie.Need-total-if-requires
+total_if_requires c κs = search rules
 
-returns-2 : tie.Need-returns-2
-unfolding withSecond
-returns-2 c =
-    rw (sym (c .before .before .before .before .before .has-values .ensures) ∙ not-false _ (c .before .before .before .before .if1 .left), c .before .before .before .mass-of .ensures .0, c .before .before .mass-of2 .ensures .0, c .total-if .ensures, c .before .count-of .ensures, c .before .before .before .before .before .before .before .lacks-count .ensures) refl
+returns_2 : tie.Need-returns-2
+unfolding with_second
+returns_2 c =
+    rw (sym c.before.before.before.before.before.has_values.ensures ∙ not-false _ c.before.before.before.before.if1.false, c.before.before.before.mass_of.ensures.0, c.before.before.mass_of2.ensures.0, c.total_if.ensures, c.before.count_of.ensures, c.before.before.before.before.before.before.before.lacks_count.ensures) refl
 
-pub with-second-spec : {M : Type 1} → statement M
-with-second-spec =
+pub with_second_spec : {M : Type 1} → statement M
+with_second_spec =
     tie.close
     (tie.spec
-    lacks-count-requires
-    has-values-requires
+    lacks_count_requires
+    has_values_requires
     returns
-    add-t16
-    add-t18
-    mass-of-requires
-    cast-t20
-    add-t21
-    mass-of-requires-2
-    cast-t23
-    add-t24
-    count-of-requires
-    add-total-if
-    total-if-requires
-    returns-2)
+    add_t16
+    add_t18
+    mass_of_requires
+    cast_t20
+    add_t21
+    mass_of_requires_2
+    cast_t23
+    add_t24
+    count_of_requires
+    add_total_if
+    total_if_requires
+    returns_2)

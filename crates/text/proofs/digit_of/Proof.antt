@@ -1,26 +1,26 @@
 -- `text::digit_of` meets its contract: below ten a digit, from ten on a letter. Assumes nothing.
 use native.Mathlib.Omega.{arith}
-use Rattle·text·proofs.proofs.Digits.{digit-low, digit-high}
-use Rattle·text·proofs.proofs.digit_of.Statement.{statement}
-use Rattle·text·proofs.proofs.digit_of.Tie as tie
+use Rattle.text.proofs.Digits.{digit_low, digit_high}
+use Rattle.text.proofs.digit_of.Statement.{statement}
+use Rattle.text.proofs.digit_of.Tie as tie
 
-cast-result : tie.Need-cast-result
-cast-result c = omega arith
+cast_result : tie.Need-overflow-cast-result
+cast_result c = omega arith
 
-add-result : tie.Need-add-result
-add-result c = omega arith
+add_result : tie.Need-overflow-add-result
+add_result c = omega arith
 
 returns : tie.Need-returns
-returns c = omega (arith, digit-low (c .before .args .n) (omega arith))
+returns c = omega (arith, digit_low c.before.args.n (omega arith))
 
-cast-result-2 : tie.Need-cast-result-2
-cast-result-2 c = omega arith
+cast_result_2 : tie.Need-overflow-cast-result-2
+cast_result_2 c = omega arith
 
-add-result-2 : tie.Need-add-result-2
-add-result-2 c = omega arith
+add_result_2 : tie.Need-overflow-add-result-2
+add_result_2 c = omega arith
 
-returns-2 : tie.Need-returns-2
-returns-2 c = omega (arith, digit-high (c .before .args .n) (omega arith) (omega arith))
+returns_2 : tie.Need-returns-2
+returns_2 c = omega (arith, digit_high c.before.args.n (omega arith) (omega arith))
 
-pub digit-of-spec : {M : Type 1} → statement M
-digit-of-spec = tie.close (tie.spec cast-result add-result returns cast-result-2 add-result-2 returns-2)
+pub digit_of_spec : {M : Type 1} → statement M
+digit_of_spec = tie.close (tie.spec cast_result add_result returns cast_result_2 add_result_2 returns_2)

@@ -1,84 +1,84 @@
 -- `text::put_hex` meets its contract: the four digits are stored at their places. Assumes nothing.
 use native.Mathlib.Omega.{arith}
 use lib.ListN.{length-set}
-use borrow.Author.Needs.{needs}
-use Rattle·text·specs.specs.Text.{hex}
-use Rattle·text·proofs.proofs.Writing.{sets-four}
-use Rattle·text·proofs.proofs.put_hex.Statement.{statement}
-use Rattle·text·proofs.proofs.put_hex.Tie as tie
+use borrow.Author.Rules.{rules}
+use Rattle.text.specs.Text.{hex}
+use Rattle.text.proofs.Writing.{sets_four}
+use Rattle.text.proofs.put_hex.Statement.{statement}
+use Rattle.text.proofs.put_hex.Tie as tie
 
-digit-of-requires : tie.Need-digit-of-requires
-digit-of-requires c κs = search needs
+digit_of_requires : tie.Need-digit-of-requires
+digit_of_requires c κs = search rules
 
-digit-of-requires-2 : tie.Need-digit-of-requires-2
-digit-of-requires-2 c κs = search needs
+digit_of_requires_2 : tie.Need-digit-of-requires-2
+digit_of_requires_2 c κs = search rules
 
-digit-of-requires-3 : tie.Need-digit-of-requires-3
-digit-of-requires-3 c κs = search needs
+digit_of_requires_3 : tie.Need-digit-of-requires-3
+digit_of_requires_3 c κs = search rules
 
-digit-of-requires-4 : tie.Need-digit-of-requires-4
-digit-of-requires-4 c κs = search needs
+digit_of_requires_4 : tie.Need-digit-of-requires-4
+digit_of_requires_4 c κs = search rules
 
-slice-write-buffer : tie.Need-slice-write-buffer
+slice_write_buffer : tie.Need-slice-write-buffer
 unfolding hex
-slice-write-buffer c = omega arith
+slice_write_buffer c = omega arith
 
-add-buffer : tie.Need-add-buffer
+add_buffer : tie.Need-overflow-add-buffer
 unfolding hex
-add-buffer c = omega arith
+add_buffer c = omega arith
 
-slice-write-buffer-2 : tie.Need-slice-write-buffer-2
+slice_write_buffer_2 : tie.Need-slice-write-buffer-2
 unfolding hex
-slice-write-buffer-2 c = simp length-set (omega arith)
+slice_write_buffer_2 c = simp length-set (omega arith)
 
-add-buffer-2 : tie.Need-add-buffer-2
+add_buffer_2 : tie.Need-overflow-add-buffer-2
 unfolding hex
-add-buffer-2 c = omega arith
+add_buffer_2 c = omega arith
 
-slice-write-buffer-3 : tie.Need-slice-write-buffer-3
+slice_write_buffer_3 : tie.Need-slice-write-buffer-3
 unfolding hex
-slice-write-buffer-3 c = simp length-set (omega arith)
+slice_write_buffer_3 c = simp length-set (omega arith)
 
-add-buffer-3 : tie.Need-add-buffer-3
+add_buffer_3 : tie.Need-overflow-add-buffer-3
 unfolding hex
-add-buffer-3 c = omega arith
+add_buffer_3 c = omega arith
 
-slice-write-buffer-4 : tie.Need-slice-write-buffer-4
+slice_write_buffer_4 : tie.Need-slice-write-buffer-4
 unfolding hex
-slice-write-buffer-4 c = simp length-set (omega arith)
+slice_write_buffer_4 c = simp length-set (omega arith)
 
-add-result : tie.Need-add-result
+add_result : tie.Need-overflow-add-result
 unfolding hex
-add-result c = omega arith
+add_result c = omega arith
 
-same-length : tie.Need-same-length
-same-length c = simp length-set
+same_length : tie.Need-same-length
+same_length c = simp length-set
 
 returns : tie.Need-returns
 unfolding hex
 returns c =
     record {
       stored =
-          rw (c .before .before .before .digit-of .ensures, c .before .before .digit-of2 .ensures, c .before .digit-of3 .ensures, c .digit-of4 .ensures)
-          (sets-four (c .before .before .before .before .before .args .buffer .now) (c .before .before .before .before .before .args .at) _ _ _ _);
+          rw (c.before.before.before.digit_of.ensures, c.before.before.digit_of2.ensures, c.before.digit_of3.ensures, c.digit_of4.ensures)
+          (sets_four c.before.before.before.before.before.args.buffer.now c.before.before.before.before.before.args.at _ _ _ _);
       behind = omega arith;
     }
 
-pub put-hex-spec : {M : Type 1} → statement M
-put-hex-spec =
+pub put_hex_spec : {M : Type 1} → statement M
+put_hex_spec =
     tie.close
     (tie.spec
-    digit-of-requires
-    digit-of-requires-2
-    digit-of-requires-3
-    digit-of-requires-4
-    slice-write-buffer
-    add-buffer
-    slice-write-buffer-2
-    add-buffer-2
-    slice-write-buffer-3
-    add-buffer-3
-    slice-write-buffer-4
-    add-result
-    same-length
+    digit_of_requires
+    digit_of_requires_2
+    digit_of_requires_3
+    digit_of_requires_4
+    slice_write_buffer
+    add_buffer
+    slice_write_buffer_2
+    add_buffer_2
+    slice_write_buffer_3
+    add_buffer_3
+    slice_write_buffer_4
+    add_result
+    same_length
     returns)

@@ -1,63 +1,63 @@
 -- `windows::class_of` meets its contract: its tests are the definition's, multiplied out. Assumes nothing.
-use Prim.Native.Nat.{_*_, _≤_, _<_}
+use Prim.Native.Nat.{◌*◌, ◌≤◌, ◌<◌}
 use mathlib.Core.Path.{refl}
 use native.Mathlib.Omega.{arith}
 use borrow.Author.Tests.{lt-ltb, le-ltb}
-use Rattle·windows·specs.specs.Figure.{urbanBelow, ruralBelow, motorwayBelow, classOf}
-use Rattle·windows·proofs.proofs.Exact.{mean-below}
-use borrow.Author.Needs.{needs}
-use Rattle·windows·proofs.proofs.class_of.Statement.{statement}
-use Rattle·windows·proofs.proofs.class_of.Tie as tie
+use Rattle.windows.specs.Figure.{urban_below, rural_below, motorway_below, class_of}
+use Rattle.windows.proofs.Exact.{mean_below}
+use borrow.Author.Rules.{rules}
+use Rattle.windows.proofs.class_of.Statement.{statement}
+use Rattle.windows.proofs.class_of.Tie as tie
 
-mul-speeds : tie.Need-mul-speeds
-mul-speeds c = search needs
+mul_speeds : tie.Need-overflow-mul-speeds
+mul_speeds c = search rules
 
-mul-if1 : tie.Need-mul-if1
-mul-if1 c = search needs
+mul_if1 : tie.Need-overflow-mul-if1
+mul_if1 c = search rules
 
 returns : tie.Need-returns
-unfolding classOf
+unfolding class_of
 returns c =
-    let s = c .before .args .s in
-    let n = c .before .args .n in
-    let slow : 10 * s < urbanBelow * n = omega arith in
-    rw (mean-below s n urbanBelow, lt-ltb _ _ slow) refl
+    let s = c.before.args.s in
+    let n = c.before.args.n in
+    let slow : 10 * s < urban_below * n = omega arith in
+    rw (mean_below s n urban_below, lt-ltb _ _ slow) refl
 
-mul-if2 : tie.Need-mul-if2
-mul-if2 c = search needs
+mul_if2 : tie.Need-overflow-mul-if2
+mul_if2 c = search rules
 
-returns-2 : tie.Need-returns-2
-unfolding classOf
-returns-2 c =
-    let s = c .before .before .args .s in
-    let n = c .before .before .args .n in
-    let not-urban : urbanBelow * n ≤ 10 * s = omega arith in
-    let slow : 10 * s < ruralBelow * n = omega arith in
-    rw (mean-below s n urbanBelow, mean-below s n ruralBelow, le-ltb _ _ not-urban, lt-ltb _ _ slow) refl
+returns_2 : tie.Need-returns-2
+unfolding class_of
+returns_2 c =
+    let s = c.before.before.args.s in
+    let n = c.before.before.args.n in
+    let not-urban : urban_below * n ≤ 10 * s = omega arith in
+    let slow : 10 * s < rural_below * n = omega arith in
+    rw (mean_below s n urban_below, mean_below s n rural_below, le-ltb _ _ not-urban, lt-ltb _ _ slow) refl
 
-mul-if3 : tie.Need-mul-if3
-mul-if3 c = search needs
+mul_if3 : tie.Need-overflow-mul-if3
+mul_if3 c = search rules
 
-returns-3 : tie.Need-returns-3
-unfolding classOf
-returns-3 c =
-    let s = c .before .before .before .args .s in
-    let n = c .before .before .before .args .n in
-    let not-urban : urbanBelow * n ≤ 10 * s = omega arith in
-    let not-rural : ruralBelow * n ≤ 10 * s = omega arith in
-    let slow : 10 * s < motorwayBelow * n = omega arith in
-    rw (mean-below s n urbanBelow, mean-below s n ruralBelow, mean-below s n motorwayBelow, le-ltb _ _ not-urban, le-ltb _ _ not-rural, lt-ltb _ _ slow) refl
+returns_3 : tie.Need-returns-3
+unfolding class_of
+returns_3 c =
+    let s = c.before.before.before.args.s in
+    let n = c.before.before.before.args.n in
+    let not-urban : urban_below * n ≤ 10 * s = omega arith in
+    let not-rural : rural_below * n ≤ 10 * s = omega arith in
+    let slow : 10 * s < motorway_below * n = omega arith in
+    rw (mean_below s n urban_below, mean_below s n rural_below, mean_below s n motorway_below, le-ltb _ _ not-urban, le-ltb _ _ not-rural, lt-ltb _ _ slow) refl
 
-returns-4 : tie.Need-returns-4
-unfolding classOf
-returns-4 c =
-    let s = c .before .before .before .args .s in
-    let n = c .before .before .before .args .n in
-    let not-urban : urbanBelow * n ≤ 10 * s = omega arith in
-    let not-rural : ruralBelow * n ≤ 10 * s = omega arith in
-    let fast : motorwayBelow * n ≤ 10 * s = omega arith in
-    rw (mean-below s n urbanBelow, mean-below s n ruralBelow, mean-below s n motorwayBelow, le-ltb _ _ not-urban, le-ltb _ _ not-rural, le-ltb _ _ fast) refl
+returns_4 : tie.Need-returns-4
+unfolding class_of
+returns_4 c =
+    let s = c.before.before.before.args.s in
+    let n = c.before.before.before.args.n in
+    let not-urban : urban_below * n ≤ 10 * s = omega arith in
+    let not-rural : rural_below * n ≤ 10 * s = omega arith in
+    let fast : motorway_below * n ≤ 10 * s = omega arith in
+    rw (mean_below s n urban_below, mean_below s n rural_below, mean_below s n motorway_below, le-ltb _ _ not-urban, le-ltb _ _ not-rural, le-ltb _ _ fast) refl
 
-pub class-of-spec : {M : Type 1} → statement M
-class-of-spec =
-    tie.close (tie.spec mul-speeds mul-if1 returns mul-if2 returns-2 mul-if3 returns-3 returns-4)
+pub class_of_spec : {M : Type 1} → statement M
+class_of_spec =
+    tie.close (tie.spec mul_speeds mul_if1 returns mul_if2 returns_2 mul_if3 returns_3 returns_4)

@@ -1,47 +1,47 @@
 -- `windows::judge` meets its contract: it finds the definition's class, curve and band; a mean that has a class keeps the curve in its bounds. Assumes nothing.
-use mathlib.Core.Path.{_∙_}
-use borrow.Author.Tests.{eq-eqb, ne-eqb}
-use Rattle·windows·specs.specs.Figure.{figureOf}
-use Rattle·windows·proofs.proofs.Classes.{has-class}
-use Rattle·windows·proofs.proofs.PlanRanges.{plan-ranges}
-use borrow.Author.Needs.{needs}
-use Rattle·windows·proofs.proofs.judge.Statement.{statement}
-use Rattle·windows·proofs.proofs.judge.Tie as tie
+use mathlib.Core.Path.{◌∙◌}
+use borrow.Author.Tests.{eq-eqb, ne_eqb}
+use Rattle.windows.specs.Figure.{figure_of}
+use Rattle.windows.proofs.Classes.{has_class}
+use Rattle.windows.proofs.PlanRanges.{plan_ranges}
+use borrow.Author.Rules.{rules}
+use Rattle.windows.proofs.judge.Statement.{statement}
+use Rattle.windows.proofs.judge.Tie as tie
 
-class-of-requires : tie.Need-class-of-requires
-class-of-requires c κs = search needs
+class_of_requires : tie.Need-class-of-requires
+class_of_requires c κs = search rules
 
 returns : tie.Need-returns
-unfolding figureOf
-returns c = rw (← c .before .class-of .ensures, eq-eqb _ _ (c .if1 .taken))
+unfolding figure_of
+returns c = rw (← c.before.class_of.ensures, eq-eqb _ _ c.if1.true)
 
-upper-of-requires : tie.Need-upper-of-requires
-upper-of-requires c κs = search needs
+upper_of_requires : tie.Need-upper-of-requires
+upper_of_requires c κs = search rules
 
-curve-at-requires : tie.Need-curve-at-requires
-curve-at-requires c κs =
-    let start = c .before .before .before in
-    let class = c .before .before .class-of in
-    (start .pre .plan-in-range, start .pre .lasts, start .pre .few, has-class _ _ (λ e. c .before .if1 .left (class .ensures ∙ e)))
+curve_at_requires : tie.Need-curve-at-requires
+curve_at_requires c κs =
+    let start = c.before.before.before in
+    let class = c.before.before.class_of in
+    (start.requires.plan_is_in_range, start.requires.lasts, start.requires.few, has_class _ _ (λ e. c.before.if1.false (class.ensures ∙ e)))
 
-in-band-requires : tie.Need-in-band-requires
-in-band-requires c κs =
-    let start = c .before .before .before .before in
-    (plan-ranges _ (start .pre .plan-in-range) .lower-most, c .curve-at .ensures .1, start .pre .moves, start .pre .weighs)
+in_band_requires : tie.Need-in-band-requires
+in_band_requires c κs =
+    let start = c.before.before.before.before in
+    ((plan_ranges _ start.requires.plan_is_in_range).lower_most, c.curve_at.ensures.1, start.requires.moves, start.requires.weighs)
 
-returns-2 : tie.Need-returns-2
-unfolding figureOf
-returns-2 c =
+returns_2 : tie.Need-returns-2
+unfolding figure_of
+returns_2 c =
     rw
-    (c .in-band .ensures, c .before .before .upper-of .ensures, c .before .curve-at .ensures .0, ← c .before .before .before .before .class-of .ensures, ne-eqb _ _ (c .before .before .before .if1 .left))
+    (c.in_band.ensures, c.before.before.upper_of.ensures, c.before.curve_at.ensures.0, ← c.before.before.before.before.class_of.ensures, ne_eqb _ _ c.before.before.before.if1.false)
 
-pub judge-spec : {M : Type 1} → statement M
-judge-spec =
+pub judge_spec : {M : Type 1} → statement M
+judge_spec =
     tie.close
     (tie.spec
-    class-of-requires
+    class_of_requires
     returns
-    upper-of-requires
-    curve-at-requires
-    in-band-requires
-    returns-2)
+    upper_of_requires
+    curve_at_requires
+    in_band_requires
+    returns_2)

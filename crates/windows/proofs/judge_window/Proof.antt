@@ -1,19 +1,19 @@
 -- `windows::judge_window` meets its contract: it judges the sums of the window's seconds. Assumes nothing.
-use borrow.Author.Needs.{needs}
-use Rattle·windows·proofs.proofs.judge_window.Statement.{statement}
-use Rattle·windows·proofs.proofs.judge_window.Tie as tie
+use borrow.Author.Rules.{rules}
+use Rattle.windows.proofs.judge_window.Statement.{statement}
+use Rattle.windows.proofs.judge_window.Tie as tie
 
-total-speed-requires : tie.Need-total-speed-requires
-total-speed-requires c κs = search needs
+total_speed_requires : tie.Need-total-speed-requires
+total_speed_requires c κs = search rules
 
-total-requires : tie.Need-total-requires
-total-requires c κs = search needs
+total_requires : tie.Need-total-requires
+total_requires c κs = search rules
 
-judge-requires : tie.Need-judge-requires
-judge-requires c κs = search needs
+judge_requires : tie.Need-judge-requires
+judge_requires c κs = search rules
 
 returns : tie.Need-returns
-returns c = rw (c .judge .ensures, c .before .total .ensures, c .before .before .total-speed .ensures)
+returns c = rw (c.judge.ensures, c.before.total.ensures, c.before.before.total_speed.ensures)
 
-pub judge-window-spec : {M : Type 1} → statement M
-judge-window-spec = tie.close (tie.spec total-speed-requires total-requires judge-requires returns)
+pub judge_window_spec : {M : Type 1} → statement M
+judge_window_spec = tie.close (tie.spec total_speed_requires total_requires judge_requires returns)

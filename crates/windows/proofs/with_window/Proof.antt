@@ -1,22 +1,22 @@
 -- `windows::with_window` meets its contract: one window more, and one more inside where it is. Assumes nothing.
 use mathlib.Core.Path.{refl}
 use native.Mathlib.Omega.{arith}
-use Rattle·windows·proofs.proofs.Classes.{one-most}
-use borrow.Author.Needs.{needs}
-use Rattle·windows·proofs.proofs.with_window.Statement.{statement}
-use Rattle·windows·proofs.proofs.with_window.Tie as tie
+use Rattle.windows.proofs.Classes.{one_most}
+use borrow.Author.Rules.{rules}
+use Rattle.windows.proofs.with_window.Statement.{statement}
+use Rattle.windows.proofs.with_window.Tie as tie
 
-add-t3 : tie.Need-add-t3
-add-t3 c = search needs
+add_t3 : tie.Need-overflow-add-t3
+add_t3 c = search rules
 
-one-if-requires : tie.Need-one-if-requires
-one-if-requires c κs = search needs
+one_if_requires : tie.Need-one-if-requires
+one_if_requires c κs = search rules
 
-add-t5 : tie.Need-add-t5
-add-t5 c = omega (arith, c .before .one-if .ensures, one-most (c .before .before .before .args .inside))
+add_t5 : tie.Need-overflow-add-t5
+add_t5 c = omega (arith, c.before.one_if.ensures, one_most c.before.before.before.args.inside)
 
 returns : tie.Need-returns
-returns c = rw (c .before .one-if .ensures) refl
+returns c = rw c.before.one_if.ensures refl
 
-pub with-window-spec : {M : Type 1} → statement M
-with-window-spec = tie.close (tie.spec add-t3 one-if-requires add-t5 returns)
+pub with_window_spec : {M : Type 1} → statement M
+with_window_spec = tie.close (tie.spec add_t3 one_if_requires add_t5 returns)

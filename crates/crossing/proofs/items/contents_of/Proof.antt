@@ -1,22 +1,22 @@
 -- `crossing::items::contents_of` meets its contract: a plan, or a second. Assumes nothing.
-use borrow.Author.Needs.{needs}
-use Rattle·crossing·specs.specs.Items.{contentsOf}
-use Rattle·crossing·proofs.proofs.items.contents_of.Statement.{statement}
-use Rattle·crossing·proofs.proofs.items.contents_of.Tie as tie
+use borrow.Author.Rules.{rules}
+use Rattle.crossing.specs.Items.{contents_of}
+use Rattle.crossing.proofs.items.contents_of.Statement.{statement}
+use Rattle.crossing.proofs.items.contents_of.Tie as tie
 
-enum-known-item : tie.Need-enum-known-item
-enum-known-item c = search needs
+enum_known_item : tie.Need-enum-known-item
+enum_known_item c = search rules
 
-enum-known-item-2 : tie.Need-enum-known-item-2
-enum-known-item-2 c = search needs
+enum_known_item_2 : tie.Need-enum-known-item-2
+enum_known_item_2 c = search rules
 
 returns : tie.Need-returns
-unfolding contentsOf
-returns c = rw (c .before .item .given .1)
+unfolding contents_of
+returns c = rw c.before.item.given.1
 
-returns-2 : tie.Need-returns-2
-unfolding contentsOf
-returns-2 c = rw (c .before .item2 .given .1)
+returns_2 : tie.Need-returns-2
+unfolding contents_of
+returns_2 c = rw c.before.item2.given.1
 
-pub contents-of-spec : {M : Type 1} → statement M
-contents-of-spec = tie.close (tie.spec enum-known-item enum-known-item-2 returns returns-2)
+pub contents_of_spec : {M : Type 1} → statement M
+contents_of_spec = tie.close (tie.spec enum_known_item enum_known_item_2 returns returns_2)

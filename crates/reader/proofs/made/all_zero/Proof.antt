@@ -1,50 +1,50 @@
 -- `reader::made::all_zero` meets its contract: all were zero if those that are left are. Assumes nothing.
-use Prim.Native.Nat.{_-_}
-use mathlib.Core.Path.{_≡_, refl, sym, _∙_}
+use Prim.Native.Nat.{◌-◌}
+use mathlib.Core.Path.{◌≡◌, refl, sym, ◌∙◌}
 use lib.ListN.{length, drop}
-use Rattle·reader·specs.specs.Inside.{allZero}
-use Rattle·reader·proofs.proofs.Testing.{zeros-end, zeros-on, zeros-broken}
-use borrow.Author.Needs.{needs}
-use Rattle·reader·proofs.proofs.made.all_zero.Statement.{statement}
-use Rattle·reader·proofs.proofs.made.all_zero.Tie as tie
+use Rattle.reader.specs.Inside.{all_zero}
+use Rattle.reader.proofs.Testing.{zeros_end, zeros_on, zeros_broken}
+use borrow.Author.Rules.{rules}
+use Rattle.reader.proofs.made.all_zero.Statement.{statement}
+use Rattle.reader.proofs.made.all_zero.Tie as tie
 
-abbrev Inv-loop : tie.InvT-loop
-Inv-loop bytes from i₀ i = allZero (drop from bytes) ≡ allZero (drop i bytes)
+abbrev invariant_loop : tie.invariant-loop
+invariant_loop bytes from i₀ i = all_zero (drop from bytes) ≡ all_zero (drop i bytes)
 
-abbrev μ-loop : tie.MeasureT-loop
-μ-loop bytes from i₀ i = length bytes - i
+abbrev decreases_loop : tie.decreases-loop
+decreases_loop bytes from i₀ i = length bytes - i
 
-loop-holds : tie.Need-loop-holds Inv-loop μ-loop
-loop-holds c = refl
+loop_holds : tie.Need-loop-init invariant_loop decreases_loop
+loop_holds c = refl
 
-shared-slice-read-if1 : tie.Need-shared-slice-read-if1 Inv-loop μ-loop
-shared-slice-read-if1 c = search needs
+shared_slice_read_if1 : tie.Need-shared-slice-read-if1 invariant_loop decreases_loop
+shared_slice_read_if1 c = search rules
 
-returns : tie.Need-returns Inv-loop μ-loop
-returns c = sym (c .before .before .before .loop .inv ∙ zeros-broken _ _ (c .before .before .loop-test .taken) (c .if1 .taken))
+returns : tie.Need-returns invariant_loop decreases_loop
+returns c = sym (c.before.before.before.loop.invariant ∙ zeros_broken _ _ c.before.before.loop-test.true c.if1.true)
 
-add-i : tie.Need-add-i Inv-loop μ-loop
-add-i c = search needs
+add_i : tie.Need-overflow-add-i invariant_loop decreases_loop
+add_i c = search rules
 
-loop-less : tie.Need-loop-less Inv-loop μ-loop
-loop-less c = search needs
+loop_less : tie.Need-loop-smaller invariant_loop decreases_loop
+loop_less c = search rules
 
-loop-again : tie.Need-loop-again Inv-loop μ-loop
-loop-again c = c .before .before .before .loop .inv ∙ zeros-on _ _ (c .before .before .loop-test .taken) (c .if1 .left)
+loop_again : tie.Need-loop-preserved invariant_loop decreases_loop
+loop_again c = c.before.before.before.loop.invariant ∙ zeros_on _ _ c.before.before.loop-test.true c.if1.false
 
-returns-2 : tie.Need-returns-2 Inv-loop μ-loop
-returns-2 c = sym (c .before .loop .inv ∙ zeros-end _ _ (c .loop-test .left))
+returns_2 : tie.Need-returns-2 invariant_loop decreases_loop
+returns_2 c = sym (c.before.loop.invariant ∙ zeros_end _ _ c.loop-test.false)
 
-pub all-zero-spec : {M : Type 1} → statement M
-all-zero-spec =
+pub all_zero_spec : {M : Type 1} → statement M
+all_zero_spec =
     tie.close
     (tie.spec
-    Inv-loop
-    μ-loop
-    loop-holds
-    shared-slice-read-if1
+    invariant_loop
+    decreases_loop
+    loop_holds
+    shared_slice_read_if1
     returns
-    add-i
-    loop-less
-    loop-again
-    returns-2)
+    add_i
+    loop_less
+    loop_again
+    returns_2)

@@ -1,11 +1,11 @@
 -- `reader::made::is_no_plan` meets its contract: its tests are those of the definition. Assumes nothing.
-use Rattle·reader·specs.specs.Inside.{isNoPlan}
-use Rattle·reader·proofs.proofs.made.is_no_plan.Statement.{statement}
-use Rattle·reader·proofs.proofs.made.is_no_plan.Tie as tie
+use Rattle.reader.specs.Inside.{is_no_plan}
+use Rattle.reader.proofs.made.is_no_plan.Statement.{statement}
+use Rattle.reader.proofs.made.is_no_plan.Tie as tie
 
 returns : tie.Need-returns
-unfolding isNoPlan
+unfolding is_no_plan
 returns c = cc
 
-pub is-no-plan-spec : {M : Type 1} → statement M
-is-no-plan-spec = tie.close (tie.spec returns)
+pub is_no_plan_spec : {M : Type 1} → statement M
+is_no_plan_spec = tie.close (tie.spec returns)

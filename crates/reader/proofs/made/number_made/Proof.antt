@@ -1,24 +1,24 @@
 -- `reader::made::number_made` meets its contract, before the plan and after it. Assumes nothing.
-use borrow.Author.Needs.{needs}
-use Rattle·reader·proofs.proofs.made.number_made.Statement.{statement}
-use Rattle·reader·proofs.proofs.made.number_made.Tie as tie
+use borrow.Author.Rules.{rules}
+use Rattle.reader.proofs.made.number_made.Statement.{statement}
+use Rattle.reader.proofs.made.number_made.Tie as tie
 
-plan-before-requires : tie.Need-plan-before-requires
-plan-before-requires c κs = search needs
+plan_before_requires : tie.Need-plan-before-requires
+plan_before_requires c κs = search rules
 
-number-after-requires : tie.Need-number-after-requires
-number-after-requires c κs = search needs
+number-after_requires : tie.Need-number-after-requires
+number-after_requires c κs = search rules
 
 returns : tie.Need-returns
-returns c = rw (← (c .before .before .plan-before .ensures), c .before .if1 .taken) (c .number-after .ensures)
+returns c = rw (← c.before.before.plan_before.ensures, c.before.if1.true) c.number_after.ensures
 
-number-before-requires : tie.Need-number-before-requires
-number-before-requires c κs = search needs
+number_before_requires : tie.Need-number-before-requires
+number_before_requires c κs = search rules
 
-returns-2 : tie.Need-returns-2
-returns-2 c = rw (← (c .before .before .plan-before .ensures), c .before .if1 .left) (c .number-before .ensures)
+returns_2 : tie.Need-returns-2
+returns_2 c = rw (← c.before.before.plan_before.ensures, c.before.if1.false) c.number_before.ensures
 
-pub number-made-spec : {M : Type 1} → statement M
-number-made-spec =
+pub number_made_spec : {M : Type 1} → statement M
+number_made_spec =
     tie.close
-    (tie.spec plan-before-requires number-after-requires returns number-before-requires returns-2)
+    (tie.spec plan_before_requires number-after_requires returns number_before_requires returns_2)

@@ -1,23 +1,23 @@
 -- `reader::made::settled_made` meets its contract: its tests are those of the definition. Assumes nothing.
 use mathlib.Core.Path.{refl}
-use Rattle·reader·specs.specs.Inside.{settledMade}
-use borrow.Author.Needs.{needs}
-use Rattle·reader·proofs.proofs.made.settled_made.Statement.{statement}
-use Rattle·reader·proofs.proofs.made.settled_made.Tie as tie
+use Rattle.reader.specs.Inside.{settled_made}
+use borrow.Author.Rules.{rules}
+use Rattle.reader.proofs.made.settled_made.Statement.{statement}
+use Rattle.reader.proofs.made.settled_made.Tie as tie
 
-slice-aggregate-all-zero : tie.Need-slice-aggregate-all-zero
-slice-aggregate-all-zero c = search needs
+slice_aggregate_all_zero : tie.Need-slice-aggregate-all-zero
+slice_aggregate_all_zero c = search rules
 
-all-zero-requires : tie.Need-all-zero-requires
-all-zero-requires c κs = search needs
+all_zero_requires : tie.Need-all-zero-requires
+all_zero_requires c κs = search rules
 
-number-made-requires : tie.Need-number-made-requires
-number-made-requires c κs = search needs
+number_made_requires : tie.Need-number-made-requires
+number_made_requires c κs = search rules
 
 returns : tie.Need-returns
-unfolding settledMade
-returns c = rw (c .number-made .ensures, c .before .all-zero .ensures) refl
+unfolding settled_made
+returns c = rw (c.number_made.ensures, c.before.all_zero.ensures) refl
 
-pub settled-made-spec : {M : Type 1} → statement M
-settled-made-spec =
-    tie.close (tie.spec slice-aggregate-all-zero all-zero-requires number-made-requires returns)
+pub settled_made_spec : {M : Type 1} → statement M
+settled_made_spec =
+    tie.close (tie.spec slice_aggregate_all_zero all_zero_requires number_made_requires returns)

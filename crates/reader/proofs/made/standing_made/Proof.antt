@@ -1,26 +1,26 @@
 -- `reader::made::standing_made` meets its contract, before the plan and after it. Assumes nothing.
-use mathlib.Core.Path.{sym, _∙_}
-use Rattle·reader·proofs.proofs.Testing.{before-plan, after-plan}
-use borrow.Author.Needs.{needs}
-use Rattle·reader·proofs.proofs.made.standing_made.Statement.{statement}
-use Rattle·reader·proofs.proofs.made.standing_made.Tie as tie
+use mathlib.Core.Path.{sym, ◌∙◌}
+use Rattle.reader.proofs.Testing.{before_plan, after_plan}
+use borrow.Author.Rules.{rules}
+use Rattle.reader.proofs.made.standing_made.Statement.{statement}
+use Rattle.reader.proofs.made.standing_made.Tie as tie
 
-plan-before-requires : tie.Need-plan-before-requires
-plan-before-requires c κs = search needs
+plan_before_requires : tie.Need-plan-before-requires
+plan_before_requires c κs = search rules
 
-made-after-requires : tie.Need-made-after-requires
-made-after-requires c κs = search needs
+made_after_requires : tie.Need-made-after-requires
+made_after_requires c κs = search rules
 
 returns : tie.Need-returns
-returns c = c .made-after .ensures ∙ sym (after-plan (c .before .before .before .args .reader) (sym (c .before .before .plan-before .ensures) ∙ c .before .if1 .taken))
+returns c = c.made_after.ensures ∙ sym (after_plan c.before.before.before.args.reader (sym c.before.before.plan_before.ensures ∙ c.before.if1.true))
 
-made-before-requires : tie.Need-made-before-requires
-made-before-requires c κs = search needs
+made_before_requires : tie.Need-made-before-requires
+made_before_requires c κs = search rules
 
-returns-2 : tie.Need-returns-2
-returns-2 c = c .made-before .ensures ∙ sym (before-plan (c .before .before .before .args .reader) (sym (c .before .before .plan-before .ensures) ∙ c .before .if1 .left))
+returns_2 : tie.Need-returns-2
+returns_2 c = c.made_before.ensures ∙ sym (before_plan c.before.before.before.args.reader (sym c.before.before.plan_before.ensures ∙ c.before.if1.false))
 
-pub standing-made-spec : {M : Type 1} → statement M
-standing-made-spec =
+pub standing_made_spec : {M : Type 1} → statement M
+standing_made_spec =
     tie.close
-    (tie.spec plan-before-requires made-after-requires returns made-before-requires returns-2)
+    (tie.spec plan_before_requires made_after_requires returns made_before_requires returns_2)

@@ -1,21 +1,21 @@
 -- `conclusion::conclude` meets its contract: it is the definition's record, and the climb is one that the verdict can judge. Assumes nothing.
-use borrow.Author.Needs.{needs}
+use borrow.Author.Rules.{rules}
 use mathlib.Core.Path.{refl}
-use Rattle·climb.proofs.Steps.{climb-at-most}
-use Rattle·trip·specs.specs.Trip.{figuresFrom, answerFrom}
-use Rattle·trip·proofs.proofs.conclusion.conclude.Statement.{statement}
-use Rattle·trip·proofs.proofs.conclusion.conclude.Tie as tie
+use Rattle.climb.proofs.Steps.{climb_at_most}
+use Rattle.trip.specs.Trip.{figures_from, answer_from}
+use Rattle.trip.proofs.conclusion.conclude.Statement.{statement}
+use Rattle.trip.proofs.conclusion.conclude.Tie as tie
 
-figures-from-requires : tie.Need-figures-from-requires
-figures-from-requires c κs = search needs
+figures_from_requires : tie.Need-figures-from-requires
+figures_from_requires c κs = search rules
 
-judge-requires : tie.Need-judge-requires
-unfolding figuresFrom
-judge-requires c κs = rw (c .before .before .before .before .figures-from .ensures) (climb-at-most _ _ _ (c .before .before .before .before .before .before .before .pre))
+judge_requires : tie.Need-judge-requires
+unfolding figures_from
+judge_requires c κs = rw c.before.before.before.before.figures_from.ensures (climb_at_most _ _ _ c.before.before.before.before.before.before.before.requires)
 
 returns : tie.Need-returns
-unfolding answerFrom
-returns c = rw (c .judge .ensures, c .before .before .before .before .before .figures-from .ensures) refl
+unfolding answer_from
+returns c = rw (c.judge.ensures, c.before.before.before.before.before.figures_from.ensures) refl
 
-pub conclude-spec : {M : Type 1} → statement M
-conclude-spec = tie.close (tie.spec figures-from-requires judge-requires returns)
+pub conclude_spec : {M : Type 1} → statement M
+conclude_spec = tie.close (tie.spec figures_from_requires judge_requires returns)

@@ -1,32 +1,32 @@
 -- `conclusion::figures_from` meets its contract: what the calls give is the definition's record. Assumes nothing.
-use borrow.Author.Needs.{needs}
+use borrow.Author.Rules.{rules}
 use mathlib.Core.Path.{refl}
-use Rattle·trip·specs.specs.Trip.{figuresFrom}
-use Rattle·trip·proofs.proofs.conclusion.figures_from.Statement.{statement}
-use Rattle·trip·proofs.proofs.conclusion.figures_from.Tie as tie
+use Rattle.trip.specs.Trip.{figures_from}
+use Rattle.trip.proofs.conclusion.figures_from.Statement.{statement}
+use Rattle.trip.proofs.conclusion.figures_from.Tie as tie
 
-count-seconds-requires : tie.Need-count-seconds-requires
-count-seconds-requires c κs = search needs
+count_seconds_requires : tie.Need-count-seconds-requires
+count_seconds_requires c κs = search rules
 
-climb-requires : tie.Need-climb-requires
-climb-requires c κs = search needs
+climb_requires : tie.Need-climb-requires
+climb_requires c κs = search rules
 
-ends-apart-requires : tie.Need-ends-apart-requires
-ends-apart-requires c κs = search needs
+ends_apart_requires : tie.Need-ends-apart-requires
+ends_apart_requires c κs = search rules
 
-cast-t13 : tie.Need-cast-t13
-cast-t13 c = search needs
+cast_t13 : tie.Need-overflow-cast-t13
+cast_t13 c = search rules
 
 returns : tie.Need-returns
-unfolding figuresFrom
-returns c = rw (c .before .before .before .ends-apart .ensures, c .before .before .before .before .climb .ensures, c .before .before .before .before .before .count-seconds .ensures) refl
+unfolding figures_from
+returns c = rw (c.before.before.before.ends_apart.ensures, c.before.before.before.before.climb.ensures, c.before.before.before.before.before.count_seconds.ensures) refl
 
-pub figures-from-spec : {M : Type 1} → statement M
-figures-from-spec =
+pub figures_from_spec : {M : Type 1} → statement M
+figures_from_spec =
     tie.close
     (tie.spec
-    count-seconds-requires
-    climb-requires
-    ends-apart-requires
-    cast-t13
+    count_seconds_requires
+    climb_requires
+    ends_apart_requires
+    cast_t13
     returns)

@@ -1,13 +1,13 @@
 -- `refusals::refused_for` meets its contract: it is the definition's record. Assumes nothing.
 
 use mathlib.Core.Path.{refl}
-use Rattle·trip·specs.specs.Trip.{refused}
-use Rattle·trip·proofs.proofs.refusals.refused_for.Statement.{statement}
-use Rattle·trip·proofs.proofs.refusals.refused_for.Tie as tie
+use Rattle.trip.specs.Trip.{refused}
+use Rattle.trip.proofs.refusals.refused_for.Statement.{statement}
+use Rattle.trip.proofs.refusals.refused_for.Tie as tie
 
 returns : tie.Need-returns
 unfolding refused
 returns c = refl
 
-pub refused-for-spec : {M : Type 1} → statement M
-refused-for-spec = tie.close (tie.spec returns)
+pub refused_for_spec : {M : Type 1} → statement M
+refused_for_spec = tie.close (tie.spec returns)

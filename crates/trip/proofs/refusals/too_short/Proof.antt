@@ -1,13 +1,13 @@
 -- `refusals::too_short` meets its contract: its tests are those of the definition. Assumes nothing.
 
 use mathlib.Core.Path.{refl}
-use Rattle·trip·specs.specs.Refusals.{tooShort}
-use Rattle·trip·proofs.proofs.refusals.too_short.Statement.{statement}
-use Rattle·trip·proofs.proofs.refusals.too_short.Tie as tie
+use Rattle.trip.specs.Refusals.{too_short}
+use Rattle.trip.proofs.refusals.too_short.Statement.{statement}
+use Rattle.trip.proofs.refusals.too_short.Tie as tie
 
 returns : tie.Need-returns
-unfolding tooShort
+unfolding too_short
 returns c = refl
 
-pub too-short-spec : {M : Type 1} → statement M
-too-short-spec = tie.close (tie.spec returns)
+pub too_short_spec : {M : Type 1} → statement M
+too_short_spec = tie.close (tie.spec returns)
