@@ -7,15 +7,15 @@ use native.Mathlib.Omega.{arith}
 use lib.Dec.{ltb}
 use borrow.Author.Tests.{ltb-true, ltb-false}
 use Rattle.base.specs.Words.{pick, after_first, sum_over, how_many}
-use Rattle.base.proofs.SumOver.{sum-over_none, sum-over_more, how_many_at_most}
+use Rattle.base.proofs.SumOver.{sum_over_none, sum_over_more, how_many_at_most}
 
 module _ (in_set : ℕ → Bool) where
   pub how_many_none : how_many in_set 0 ≡ 0
-  how_many_none = sum-over_none in_set (λ i. 1)
+  how_many_none = sum_over_none in_set (λ i. 1)
 
   -- one index more, at the code's i + 1
   pub how_many_more : (i : ℕ) → how_many in_set (i + 1) ≡ how_many in_set i + pick (in_set i) 1 0
-  how_many_more i = sum-over_more in_set (λ i. 1) i
+  how_many_more i = sum_over_more in_set (λ i. 1) i
 
   -- each of them
   pub how_many_all : (n : ℕ) → ((i : ℕ) → i < n → in_set i ≡ true) → how_many in_set n ≡ n

@@ -13,7 +13,7 @@ use Rattle.base.specs.Second.{altitude_in_range}
 use Rattle.base.specs.Words.{pick, how_many}
 use Rattle.base.proofs.Choice.{both_ways}
 use Rattle.base.proofs.Seconds.{after_none, after_more, after_keeps}
-use Rattle.base.proofs.SumOver.{sum-over_none, sum-over_more}
+use Rattle.base.proofs.SumOver.{sum_over_none, sum_over_more}
 use Rattle.second.specs.Row.{has_values}
 use Rattle.climb.specs.Corrected.{Altitude, none, cm, recorded_at, recorded_before, jumps, corrected, corrected_after, is_high, high_after}
 use Rattle.climb.specs.Inside.{AltitudeLanes}
@@ -47,7 +47,7 @@ module _ (states speeds : List ℕ) (altitudes : List ℤ) where
 
   -- whether one of the first i is too high
   pub high_none : ltb 0 (how_many (high_after states speeds altitudes) 0) ≡ false
-  high_none = rw (sum-over_none (high_after states speeds altitudes) (λ i. 1)) refl
+  high_none = rw (sum_over_none (high_after states speeds altitudes) (λ i. 1)) refl
 
   or_one : (h : ℕ) (t : Bool) → ltb 0 (h + pick t 1 0) ≡ (ltb 0 h || t)
   or_one zero true = refl
@@ -56,7 +56,7 @@ module _ (states speeds : List ℕ) (altitudes : List ℤ) where
 
   pub high_more : (i : ℕ) → ltb 0 (how_many (high_after states speeds altitudes) (i + 1)) ≡ (ltb 0 (how_many (high_after states speeds altitudes) i) || is_high (corrected_after states speeds altitudes (i + 1)))
   high_more i =
-      rw (sum-over_more (high_after states speeds altitudes) (λ i. 1) i, add-one) (or_one (how_many (high_after states speeds altitudes) i) (high_after states speeds altitudes i))
+      rw (sum_over_more (high_after states speeds altitudes) (λ i. 1) i, add-one) (or_one (how_many (high_after states speeds altitudes) i) (high_after states speeds altitudes i))
 
 -- ---- the range
 -- an altitude is in range, where there is one

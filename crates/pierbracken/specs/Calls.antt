@@ -48,7 +48,7 @@ use Rattle.printed.proofs.write_text.Reads as write_text_call
 
 -- `Pre` and `Post` of a call are its contract, read by the toolchain from `src/`: what it asks of the inputs, and which result
 -- and which parameters at exit it allows for them. A parameter is named by its place in the parameter list: `.0` the first,
--- `.1 .0` the second, `.1 .1 .0` the third; `.now` is what a lane holds. `κs` stands for how long each lane is lent.
+-- `.1.0` the second, `.1.1.0` the third; `.now` is what a lane holds. `κs` stands for how long each lane is lent.
 
 -- a call that asks nothing of its inputs, of which every allowed result is `answer` and every lane that it leaves is `left`
 pub record Answers

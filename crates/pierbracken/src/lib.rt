@@ -2,7 +2,7 @@
 // sixteen reasons. This page is the whole of it, by groups of calls; each call stands, with the
 // contract that it is proved to meet, in the crate that it is taken from. Every call takes all
 // inputs and ends; bad input is refused by a number and a place, and a refused call writes into no
-// lent lane. specs/ has the theorems about the whole, a file for each demand.
+// lent lane. specs/ and proofs/ have the theorems about the whole, a file for each demand.
 #![tactic(auto)]
 
 // The release of the meaning of "valid" by which this build answers.

@@ -17,7 +17,7 @@ use Rattle.tally.specs.Numbers.{slow_below, fast_above, faster_above, fastest_ab
 use Rattle.tally.specs.Sets.{is_missing, is_slow_urban, is_above}
 use Rattle.tally.specs.Counts.{gap_after, longest_gap, counts_after}
 use Rattle.tally.specs.Inside.{gap_with, counts_with, Few}
-use Rattle.base.proofs.SumOver.{sum-over_more, how_many_at_most}
+use Rattle.base.proofs.SumOver.{sum_over_more, how_many_at_most}
 
 -- a slow second is urban
 slow_is_urban : (present : Bool) (speed : ℕ) → present && eqb (bin_of speed) urban && ltb speed slow_below ≡ present && ltb speed slow_below
@@ -53,7 +53,7 @@ module _ (states speeds : List ℕ) where
   pub counts_more : (i : ℕ) → counts_after states speeds (i + 1) ≡ counts_with (counts_after states speeds i) (gap_after states (i + 1)) (get_or states i 0) (get_or speeds i 0)
   unfolding counts_after counts_with
   counts_more i =
-      rw (sum-over_more, longest_gap_more, sum-over_more, sum-over_more, sum-over_more, sum-over_more, slow_is_urban) refl
+      rw (sum_over_more, longest_gap_more, sum_over_more, sum_over_more, sum_over_more, sum_over_more, slow_is_urban) refl
 
   -- no count passes the seconds counted
   pub counts_few : (i : ℕ) → i ≤ trip_limit → Few (counts_after states speeds i)

@@ -19,7 +19,7 @@ use Rattle.tally.specs.declared.Tally.{Tally}
 use Rattle.tally.specs.Sets.{is_missing, is_present, is_in_bin}
 use Rattle.tally.specs.Tally.{mass_of, no_seconds, tally_over, whole_tally}
 use Rattle.tally.specs.Inside.{bin_tallies_after, bin_tallies, with_second, added, Room}
-use Rattle.base.proofs.SumOver.{sum-over_more, sum-over_at_most, how_many_at_most, how_many_both, sum-over_parts}
+use Rattle.base.proofs.SumOver.{sum_over_more, sum_over_at_most, how_many_at_most, how_many_both, sum_over_parts}
 
 -- a bin is one of three
 pub bin-below : (speed : ℕ) → bin_of speed < 3
@@ -57,7 +57,7 @@ module _ (states speeds co2 nox : List ℕ) (i : ℕ) where
   bin_more : (bin : ℕ) → tally_over states speeds co2 nox (is_in_bin states speeds bin) (i + 1) ≡ pick (eqb (bin_of (get_or speeds i 0)) bin) (with_this (tally_over states speeds co2 nox (is_in_bin states speeds bin) i)) (tally_over states speeds co2 nox (is_in_bin states speeds bin) i)
   unfolding tally_over with_second
   bin_more bin =
-      rw (sum-over_more, sum-over_more, sum-over_more, sum-over_more)
+      rw (sum_over_more, sum_over_more, sum_over_more, sum_over_more)
       (changed (has_values (get_or states i 0)) (eqb (bin_of (get_or speeds i 0)) bin) (tally_over states speeds co2 nox (is_in_bin states speeds bin) i) (get_or speeds i 0) (mass_of (get_or states i 0) (get_or co2 i 0)) (mass_of (get_or states i 0) (get_or nox i 0)))
 
 -- a change of one bin's tally is a store in its place
@@ -106,7 +106,7 @@ module _ (states speeds co2 nox : List ℕ) where
     where
       sums : (value : ℕ → ℕ) → sum_over (is_in_bin states speeds urban) value (length states) + sum_over (is_in_bin states speeds rural) value (length states) + sum_over (is_in_bin states speeds motorway) value (length states) ≡ sum_over (is_present states) value (length states)
       sums value =
-          sum-over_parts (is_present states) (is_in_bin states speeds urban) (is_in_bin states speeds rural) (is_in_bin states speeds motorway) value
+          sum_over_parts (is_present states) (is_in_bin states speeds urban) (is_in_bin states speeds rural) (is_in_bin states speeds motorway) value
           (λ i v. one_bin (has_values (get_or states i 0)) (get_or speeds i 0) v) (length states)
 
   -- "their seconds to n less the missing": where each state is known
@@ -124,9 +124,9 @@ module _ (states speeds co2 nox : List ℕ) where
     tally_room in_set i few =
         record {
           seconds = omega (arith, how_many_at_most in_set i);
-          distance = omega (arith, sum-over_at_most in_set (λ k. get_or speeds k 0) 65_535 (λ k. omega (arith, small_speeds k)) i);
-          co2 = omega (arith, sum-over_at_most in_set _ (2 ^ 32) (λ k. mass_below (get_or states k 0) (get_or co2 k 0) (small_co2 k)) i);
-          nox = omega (arith, sum-over_at_most in_set _ (2 ^ 32) (λ k. mass_below (get_or states k 0) (get_or nox k 0) (small_nox k)) i);
+          distance = omega (arith, sum_over_at_most in_set (λ k. get_or speeds k 0) 65_535 (λ k. omega (arith, small_speeds k)) i);
+          co2 = omega (arith, sum_over_at_most in_set _ (2 ^ 32) (λ k. mass_below (get_or states k 0) (get_or co2 k 0) (small_co2 k)) i);
+          nox = omega (arith, sum_over_at_most in_set _ (2 ^ 32) (λ k. mass_below (get_or states k 0) (get_or nox k 0) (small_nox k)) i);
         }
 
     pub bin_room : (i speed : ℕ) → i ≤ trip_limit → Room (get_or (bin_tallies_after states speeds co2 nox i) (bin_of speed) no_seconds)

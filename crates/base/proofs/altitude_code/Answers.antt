@@ -4,7 +4,7 @@ use Prim.Native.Nat.{◌+◌, ◌^◌, ◌<◌}
 use mathlib.Core.Path.{◌≡◌, sym, ◌∙◌}
 use mathlib.Core.Bool.{Bool, true, false, ◌&&◌}
 use native.Mathlib.Omega.{arith}
-use borrow.Author.Rules.{sfits_of}
+use borrow.Author.Rules.{rules, sfits_of}
 use lib.Dec.{T}
 use lib.IntN.{ℤ, pos, nat_abs, ◌-ℤ◌}
 use lib.ListN.{get_or}
@@ -57,7 +57,7 @@ module _ (z : ℤ) (fits : mag z < 2 ^ hbits w32) where
     inside = rw above_as_is (sym (code_in_range z (in_range_as taken)))
 
 pub returns-then-altitude : goal.returns-then-altitude
-returns-then-altitude c = inside (get_or c.args.altitudes.now c.args.i (pos 0)) c.altitude-1.given c.if-altitude.true
+returns-then-altitude c = inside (get_or c.args.altitudes.now c.args.i (pos 0)) (search rules) c.if-altitude.true
 
 pub returns-else-altitude : goal.returns-else-altitude
-returns-else-altitude c = outside (get_or c.args.altitudes.now c.args.i (pos 0)) c.altitude-1.given c.if-altitude.false
+returns-else-altitude c = outside (get_or c.args.altitudes.now c.args.i (pos 0)) (search rules) c.if-altitude.false

@@ -11,8 +11,7 @@ use Rattle.climb.proofs.ends_apart.Goals as goal
 pub returns : goal.returns
 returns c =
     let some : first_with_altitude c.args.states.now ≡ length c.args.states.now → ⊥ = λ e. c.if-first-states.false (c.first_with_altitude-first.ensures ∙ e) in
-    let start = c in
-    rw (c.apart.ensures, c.altitude_code-to.ensures, c.altitude_code-from.ensures, c.last_with_altitude-last.ensures, c.first_with_altitude-first.ensures, difference_of start.args.states.now start.args.altitudes.now start.requires some) refl
+    rw (c.apart.ensures, c.altitude_code-to.ensures, c.altitude_code-from.ensures, c.last_with_altitude-last.ensures, c.first_with_altitude-first.ensures, difference_of c.args.states.now c.args.altitudes.now c.requires some) refl
 
 pub returns-then-first-states : goal.returns-then-first-states
 returns-then-first-states c =
@@ -22,13 +21,11 @@ returns-then-first-states c =
 pub altitude_code-from-requires : goal.altitude_code-from-requires
 altitude_code-from-requires c =
     let some : first_with_altitude c.args.states.now ≡ length c.args.states.now → ⊥ = λ e. c.if-first-states.false (c.first_with_altitude-first.ensures ∙ e) in
-    let start = c in
-    let first = first_recorded start.args.states.now some in
-    omega (arith, first.within, c.first_with_altitude-first.ensures, start.requires.altitudes_agree)
+    let first = first_recorded c.args.states.now some in
+    omega (arith, first.within, c.first_with_altitude-first.ensures, c.requires.altitudes_agree)
 
 pub altitude_code-to-requires : goal.altitude_code-to-requires
 altitude_code-to-requires c =
     let some : first_with_altitude c.args.states.now ≡ length c.args.states.now → ⊥ = λ e. c.if-first-states.false (c.first_with_altitude-first.ensures ∙ e) in
-    let start = c in
-    let last = last_recorded start.args.states.now some in
-    omega (arith, last.within, c.last_with_altitude-last.ensures, start.requires.altitudes_agree)
+    let last = last_recorded c.args.states.now some in
+    omega (arith, last.within, c.last_with_altitude-last.ensures, c.requires.altitudes_agree)

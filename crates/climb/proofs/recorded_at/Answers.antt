@@ -17,11 +17,10 @@ altitude_code-recorded-requires c =
 
 pub returns-then-has_values : goal.returns-then-has_values
 returns-then-has_values c =
-    let start = c in
-    let a = start.args in
+    let a = c.args in
     let code = c.altitude_code-recorded.ensures in
     let has : has_values (get_or a.states.now a.i 0) ≡ true = sym c.has_values.ensures ∙ c.if-has_values.true in
-    (ap altitude_of code ∙ of_altitude _ (start.requires.altitude_lanes.in_range a.i start.requires.i_in_bounds has) ∙ sym (recorded_some a.states.now a.altitudes.now a.i has), omega (arith, code_at_most (get_or a.altitudes.now a.i (pos 0))))
+    (ap altitude_of code ∙ of_altitude _ (c.requires.altitude_lanes.in_range a.i c.requires.i_in_bounds has) ∙ sym (recorded_some a.states.now a.altitudes.now a.i has), omega (arith, code_at_most (get_or a.altitudes.now a.i (pos 0))))
 
 pub returns : goal.returns
 returns c =

@@ -7,11 +7,9 @@ use Rattle.dynamics.proofs.dynamics_from.Goals as goal
 
 pub bin_dynamics-requires : goal.bin_dynamics-requires
 bin_dynamics-requires c =
-    let s = c in
-    record { speed_lanes = s.requires.speed_lanes; room = part_room s.args.lane.now s.args.from (length (products_of s.args.bin s.args.states.now s.args.speeds.now)) s.requires.room }
+    record { speed_lanes = c.requires.speed_lanes; room = part_room c.args.lane.now c.args.from (length (products_of c.args.bin c.args.states.now c.args.speeds.now)) c.requires.room }
 
 pub returns : goal.returns
 returns c =
-    let s = c in
-    let products = products_of s.args.bin s.args.states.now s.args.speeds.now in
-    (c.bin_dynamics.ensures.0, part_back s.args.lane.now s.args.from (sort products) c.bin_dynamics.ensures.1)
+    let products = products_of c.args.bin c.args.states.now c.args.speeds.now in
+    (c.bin_dynamics.ensures.0, part_back c.args.lane.now c.args.from (sort products) c.bin_dynamics.ensures.1)

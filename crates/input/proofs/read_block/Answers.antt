@@ -12,7 +12,6 @@ returns-then-came-eq0-clause-fed c =
     let held_long : length c.args.reader.held ≡ 21 = search rules in
     has_fed_nothing _ c.args.reader c.requires.unsettled.made (held_long ∙ sym places_are)
 
--- before the lengths, which lanes that are exchanged would break too
 pub returns-clause-fed : goal.returns-clause-fed
 returns-clause-fed c =
     let feed = c.feed-fed in

@@ -10,32 +10,26 @@ shape_of-lane-then-m-lt-FEWEST c =
 
 pub returns-then-m-lt-FEWEST : goal.returns-then-m-lt-FEWEST
 returns-then-m-lt-FEWEST c =
-    let s = c in
     let is = c.rank.ensures in
-    record { value = sym (q_too_few s.args.lane.now s.args.m s.requires.0 is (omega arith)); lane_after = whole s.args.lane.now s.args.m s.requires.0 is }
+    record { value = sym (q_too_few c.args.lane.now c.args.m c.requires.0 is (omega arith)); lane_after = whole c.args.lane.now c.args.m c.requires.0 is }
 
 pub slice_bounds-q_of-end : goal.slice_bounds-q_of-end
 slice_bounds-q_of-end c =
-    let s = c in
-    omega (arith, whole_length s.args.lane.now s.args.m s.requires.0 c.rank.ensures)
+    omega (arith, whole_length c.args.lane.now c.args.m c.requires.0 c.rank.ensures)
 
 pub slice_bounds-q_of-end-2 : goal.slice_bounds-q_of-end-2
 slice_bounds-q_of-end-2 c =
-    let s = c in
-    front_length s.args.lane.now s.args.m s.requires.0 c.rank.ensures
+    front_length c.args.lane.now c.args.m c.requires.0 c.rank.ensures
 
 pub q_of-requires : goal.q_of-requires
 q_of-requires c =
-    let s = c in
-    front_ranked s.args.lane.now s.args.m s.requires.0 c.rank.ensures (omega arith) s.requires.1
+    front_ranked c.args.lane.now c.args.m c.requires.0 c.rank.ensures (omega arith) c.requires.1
 
 pub shape_of-lane : goal.shape_of-lane
 shape_of-lane c =
-    let s = c in
-    whole_length s.args.lane.now s.args.m s.requires.0 c.rank.ensures
+    whole_length c.args.lane.now c.args.m c.requires.0 c.rank.ensures
 
 pub returns : goal.returns
 returns c =
-    let s = c in
     let is = c.rank.ensures in
-    record { value = c.q_of.ensures ∙ q_of_front s.args.lane.now s.args.m s.requires.0 is (omega arith); lane_after = whole s.args.lane.now s.args.m s.requires.0 is }
+    record { value = c.q_of.ensures ∙ q_of_front c.args.lane.now c.args.m c.requires.0 is (omega arith); lane_after = whole c.args.lane.now c.args.m c.requires.0 is }

@@ -20,10 +20,9 @@ returns-then-not-window_in_range c =
 
 pub judge-figure-requires : goal.judge-figure-requires
 judge-figure-requires c =
-    let start = c in
-    let s = start.args.s in
-    let m = start.args.m in
-    let n = start.args.n in
+    let s = c.args.s in
+    let m = c.args.m in
+    let n = c.args.n in
     let fine = sym c.window_in_range.ensures ∙ c.if-not-window_in_range.false in
     let first = (and-eq-true_iff (leb 1 n && leb n window_most && leb 1 s) (leb 1 m)).0 fine in
     let second = (and-eq-true_iff (leb 1 n && leb n window_most) (leb 1 s)).0 first.0 in

@@ -15,8 +15,7 @@ loop-i-init c =
 
 pub loop-i-preserved : goal.loop-i-preserved
 loop-i-preserved c =
-    let l = c in
-    (search rules, rw l.loop-i.invariant.1 (fine_so_far (λ k. co2_in_range (get_or l.args.co2.now k 0)) _ l.loop-i.i (omega arith)))
+    (search rules, rw c.loop-i.invariant.1 (fine_so_far (λ k. co2_in_range (get_or c.args.co2.now k 0)) _ c.loop-i.i (omega arith)))
 
 pub returns : goal.returns
 returns c =

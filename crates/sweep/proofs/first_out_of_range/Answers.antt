@@ -16,13 +16,11 @@ loop-i-init c =
 
 pub returns-then-co2-i-gt-CO2 : goal.returns-then-co2-i-gt-CO2
 returns-then-co2-i-gt-CO2 c =
-    let l = c in
-    sym (first_bad_is (λ k. co2_in_range (get_or l.args.co2.now k 0)) _ l.loop-i.i (record { within = l.loop-i.invariant.0; before = l.loop-i.invariant.1; there = λ h. lt-leb _ _ c.if-co2-i-gt-CO2.true }))
+    sym (first_bad_is (λ k. co2_in_range (get_or c.args.co2.now k 0)) _ c.loop-i.i (record { within = c.loop-i.invariant.0; before = c.loop-i.invariant.1; there = λ h. lt-leb _ _ c.if-co2-i-gt-CO2.true }))
 
 pub loop-i-preserved : goal.loop-i-preserved
 loop-i-preserved c =
-    let l = c in
-    (search rules, below_more _ _ l.loop-i.invariant.1 (le-leb _ _ c.if-co2-i-gt-CO2.false))
+    (search rules, below_more _ _ c.loop-i.invariant.1 (le-leb _ _ c.if-co2-i-gt-CO2.false))
 
 pub returns : goal.returns
 returns c =

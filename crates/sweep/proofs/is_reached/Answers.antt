@@ -19,19 +19,16 @@ returns-then-state-taken c =
 
 pub total-requires : goal.total-requires
 total-requires c =
-    let start = c in
-    let state = start.args.state in
+    let state = c.args.state in
     omega
-    (arith, part_sum state.dropped state.taken start.args.co2.now c.if-taken-dropped.false, first_within state.taken start.args.co2.now, start.requires.1.light)
+    (arith, part_sum state.dropped state.taken c.args.co2.now c.if-taken-dropped.false, first_within state.taken c.args.co2.now, c.requires.1.light)
 
 pub returns-then-mass-total : goal.returns-then-mass-total
 returns-then-mass-total c =
-    let start = c in
-    sym (misweighed _ _ start.requires.0 start.args.state c.if-taken-dropped.false (λ e. c.if-mass-total.true (e ∙ sym c.total.ensures)))
+    sym (misweighed _ _ c.requires.0 c.args.state c.if-taken-dropped.false (λ e. c.if-mass-total.true (e ∙ sym c.total.ensures)))
 
 pub closed_rightly-requires : goal.closed_rightly-requires
 closed_rightly-requires c =
-    let start = c in
     omega (arith, c.if-mass-total.false, c.total.type_inv, c.if-taken-dropped.false, c.if-co2-taken.false)
 
 pub needed_last-requires : goal.needed_last-requires
@@ -40,10 +37,9 @@ needed_last-requires c =
 
 pub returns : goal.returns
 returns c =
-    let start = c in
-    let state = start.args.state in
+    let state = c.args.state in
     rw (c.closed_rightly.ensures, c.needed_last.ensures)
-    (two_tests _ _ start.requires.0 state
+    (two_tests _ _ c.requires.0 state
     (record {
       counted = c.if-state-taken.false;
       order = c.if-taken-dropped.false;

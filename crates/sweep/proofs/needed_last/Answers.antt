@@ -11,7 +11,7 @@ returns-then-taken-eq0 c =
 
 pub overflow_add-result : goal.overflow_add-result
 overflow_add-result c =
-    omega (arith, c.shared_slice_known-1.given (c.args.taken - 1))
+    omega (arith, c.type_inv.co2 (c.args.taken - 1))
 
 pub returns : goal.returns
 returns c =

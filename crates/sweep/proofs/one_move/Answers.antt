@@ -33,7 +33,7 @@ bounds-co2-first c =
 
 pub overflow_cast-result : goal.overflow_cast-result
 overflow_cast-result c =
-    omega (arith, c.shared_slice_known-1.given c.args.state.dropped)
+    omega (arith, c.type_inv.co2 c.args.state.dropped)
 
 pub overflow_sub-result : goal.overflow_sub-result
 overflow_sub-result c =
@@ -49,12 +49,12 @@ returns-then-reference-mass c =
 
 pub overflow_cast-result-then-taken-co2 : goal.overflow_cast-result-then-taken-co2
 overflow_cast-result-then-taken-co2 c =
-    omega (arith, c.shared_slice_known-then-taken-co2-1.given c.args.state.taken)
+    omega (arith, c.type_inv.co2 c.args.state.taken)
 
 pub overflow_add-result-then-taken-co2-2 : goal.overflow_add-result-then-taken-co2-2
 overflow_add-result-then-taken-co2-2 c =
     let ready = c.requires in
-    omega (arith, c.shared_slice_known-then-taken-co2-1.given c.args.state.taken, mass_fits _ _ ready.masses ready.stands)
+    omega (arith, c.type_inv.co2 c.args.state.taken, mass_fits _ _ ready.masses ready.stands)
 
 pub returns-then-taken-co2 : goal.returns-then-taken-co2
 unfolding move move_ends

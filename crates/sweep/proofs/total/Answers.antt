@@ -23,8 +23,7 @@ overflow_add-mass-in-loop-i-2 c =
 
 pub loop-i-preserved : goal.loop-i-preserved
 loop-i-preserved c =
-    let l = c in
-    halves_more _ _ _ _ l.loop-i.invariant (omega arith) l.loop-i-test.true
+    halves_more _ _ _ _ c.loop-i.invariant (omega arith) c.loop-i-test.true
 
 pub returns-then-half-co2 : goal.returns-then-half-co2
 returns-then-half-co2 c =

@@ -23,7 +23,7 @@ bounds-bins-bin c =
 pub with_second-requires : goal.with_second-requires
 with_second-requires c =
     rw (c.loop-i.invariant.1, c.bin_of-bin.ensures)
-    (bin_room _ _ _ _ (λ k. (c.shared_slice_known-2-1.given k).fits) (λ k. (c.shared_slice_known-3-1.given k).fits) (λ k. (c.shared_slice_known-4-1.given k).fits) _ _ (omega arith))
+    (bin_room _ _ _ _ (λ k. (c.type_inv.speeds k).fits) (λ k. (c.type_inv.co2 k).fits) (λ k. (c.type_inv.nox k).fits) _ _ (omega arith))
 
 pub offset_bounds-bins-bin-in-loop-i : goal.offset_bounds-bins-bin-in-loop-i
 offset_bounds-bins-bin-in-loop-i c =

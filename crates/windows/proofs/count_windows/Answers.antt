@@ -70,8 +70,7 @@ slice_bounds-judge_window-count-in-loop-first c =
 
 pub judge_window-figure-requires : goal.judge_window-figure-requires
 judge_window-figure-requires c =
-    let l = c in
-    turn_seconds _ _ _ _ _ l.requires l.loop-first.first l.loop-first-test.true
+    turn_seconds _ _ _ _ _ c.requires c.loop-first.first c.loop-first-test.true
 
 pub offset_bounds-counts-class : goal.offset_bounds-counts-class
 offset_bounds-counts-class c =
@@ -112,12 +111,11 @@ loop-first-preserved c =
     let a = c.args in
     let l = c.loop-first in (
       omega arith,
-      rw (c.with_window.ensures, judged, l.invariant.1) (counts_more a.plan a.speeds.now a.co2.now l.first (here).has),
+      rw (c.with_window.ensures, judged, l.invariant.1) (counts_more a.plan a.speeds.now a.co2.now l.first here.has),
     )
 
 pub returns : goal.returns
 returns c =
-    let start = c in
     let l = c.loop-first in
-    let all : l.first ≡ windows start.args.plan.reference start.args.co2.now = omega (arith, start.requires.all) in
-    l.invariant.1 ∙ ap (counts_at _ _ _) all ∙ counts_all _ _ _ (plan_ranges _ start.requires.plan_is_in_range).reference_least
+    let all : l.first ≡ windows c.args.plan.reference c.args.co2.now = omega (arith, c.requires.all) in
+    l.invariant.1 ∙ ap (counts_at _ _ _) all ∙ counts_all _ _ _ (plan_ranges _ c.requires.plan_is_in_range).reference_least

@@ -13,14 +13,12 @@ returns-then-class-eq-UNCLASSED c =
 
 pub curve_at-requires : goal.curve_at-requires
 curve_at-requires c =
-    let start = c in
     let class = c.class_of-class in
-    (start.requires.plan_is_in_range, start.requires.lasts, start.requires.few, has_class _ _ (λ e. c.if-class-eq-UNCLASSED.false (class.ensures ∙ e)))
+    (c.requires.plan_is_in_range, c.requires.lasts, c.requires.few, has_class _ _ (λ e. c.if-class-eq-UNCLASSED.false (class.ensures ∙ e)))
 
 pub in_band-inside-requires : goal.in_band-inside-requires
 in_band-inside-requires c =
-    let start = c in
-    ((plan_ranges _ start.requires.plan_is_in_range).lower_most, c.curve_at.ensures.1, start.requires.moves, start.requires.weighs)
+    ((plan_ranges _ c.requires.plan_is_in_range).lower_most, c.curve_at.ensures.1, c.requires.moves, c.requires.weighs)
 
 pub returns : goal.returns
 unfolding figure_of

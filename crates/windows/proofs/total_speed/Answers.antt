@@ -14,9 +14,7 @@ loop-i-init c =
 
 pub overflow_add-total-in-loop-i : goal.overflow_add-total-in-loop-i
 overflow_add-total-in-loop-i c =
-    let l = c in
-    let start = l in
-    omega (arith, start.requires.each l.loop-i.i (omega arith), start.requires.each (length start.args.speeds.now / 2 + l.loop-i.i) (omega arith))
+    omega (arith, c.requires.each c.loop-i.i (omega arith), c.requires.each (length c.args.speeds.now / 2 + c.loop-i.i) (omega arith))
 
 pub overflow_cast-total : goal.overflow_cast-total
 overflow_cast-total c =
@@ -30,8 +28,7 @@ overflow_add-total-in-loop-i-2 c =
 
 pub loop-i-preserved : goal.loop-i-preserved
 loop-i-preserved c =
-    let l = c in
-    halves_more _ _ _ _ l.loop-i.invariant (omega arith) l.loop-i-test.true
+    halves_more _ _ _ _ c.loop-i.invariant (omega arith) c.loop-i-test.true
 
 pub returns-then-half-speeds : goal.returns-then-half-speeds
 returns-then-half-speeds c =
