@@ -1,6 +1,6 @@
 #!/bin/sh
-# tests/c/header.sh: the header from C. Its bytes, its numbers and its layout against the library, and
-# the stack of every call. The last line is `N passed, M failed`.
+# tests/c/header.sh: the header from C. Its bytes, its numbers and its layout against the library, the
+# contracts of what is exported, and the stack of every call. The last line is `N passed, M failed`.
 cd "$(dirname "$0")/../.." || exit 1
 . tools/compilers
 passed=0 failed=0
@@ -36,6 +36,19 @@ runs() {
         holds "tests/c/$1.c gave no count, status $status" 1
     fi
 }
+
+# contracts CRATE: each function's signature and clauses, without what makes it an export, by file.
+contracts() {
+    for file in "crates/$1"/src/*.rt; do
+        echo "== ${file##*/}"
+        sed -n '/^pub .*fn /,/^{$/{ s/^pub extern "C" fn /pub fn /; p; }' "$file"
+    done
+}
+
+contracts capi >"$room/capi"
+contracts capi_c >"$room/capi_c"
+grep -q '^    ensures ' "$room/capi" && cmp "$room/capi" "$room/capi_c"
+holds "what is exported has the contracts that the theorems speak of" $?
 
 LC_ALL=C grep -n '[^ -~]' include/pierbracken.h
 holds "the header is plain ASCII" $(($? != 1))
