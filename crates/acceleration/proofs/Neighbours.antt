@@ -1,19 +1,14 @@
 -- Laws of the second before and the second after, inside the trip and at its ends. Assumes nothing.
-use Prim.Native.Nat.{ℕ, zero, suc, ◌+◌, ◌-◌, ◌≤◌, ◌<◌}
+use Prim.Native.Nat.{ℕ, suc, ◌+◌, ◌-◌, ◌≤◌, ◌<◌}
 use mathlib.Core.Path.{◌≡◌, refl, ap}
 use mathlib.Core.Bool.{true}
-use mathlib.Core.List.{List, [], ◌∷◌}
+use mathlib.Core.List.{List}
 use native.Mathlib.Omega.{arith}
 use lib.ListN.{length, get_or, get_or-eq_default}
+use Rattle.std.proofs.lemmas.List.{get_or_default}
 use Rattle.base.specs.Second.{measured}
 use Rattle.second.specs.Row.{has_values}
 use Rattle.acceleration.specs.D.{speed_before, speed_after, has_before, has_after}
-
--- inside a list it does not matter what is read outside
-get_d_inside : (l : List ℕ) (i d e : ℕ) → i < length l → get_or l i d ≡ get_or l i e
-get_d_inside [] i d e h = absurd (omega arith)
-get_d_inside (x ∷ l) zero d e h = refl
-get_d_inside (x ∷ l) (suc i) d e h = get_d_inside l i d e (omega arith)
 
 -- an index above 0 is one more than its predecessor
 one_up : (i : ℕ) → 0 < i → i ≡ suc (i - 1)
@@ -47,7 +42,7 @@ module _ (states : List ℕ) (i : ℕ) where
 
   pub has_after_lem : i + 1 < length states → has_after states i ≡ has_values (get_or states (i + 1) 0)
   unfolding has_after
-  has_after_lem h = ap has_values (get_d_inside states (i + 1) measured 0 h)
+  has_after_lem h = ap has_values (get_or_default states (i + 1) measured 0 h)
 
   pub has_after_last : length states ≤ i + 1 → has_after states i ≡ true
   unfolding has_after has_values

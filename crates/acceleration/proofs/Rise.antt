@@ -1,5 +1,5 @@
--- Laws of D by the order of the two speeds: its case of the answer, whether the second counts, and its product. Assumes nothing.
-use Prim.Native.Nat.{ℕ, suc, ◌+◌, ◌-◌, ◌*◌, ◌≤◌, ◌<◌}
+-- Laws of D by the order of the two speeds: whether the second counts, and its product. Assumes nothing.
+use Prim.Native.Nat.{ℕ, ◌+◌, ◌-◌, ◌*◌, ◌≤◌, ◌<◌}
 use mathlib.Core.Path.{◌≡◌, refl, sym, ◌∙◌, ap}
 use mathlib.Core.Bool.{Bool, true, false, ◌&&◌, and-false}
 use mathlib.Core.List.{List}
@@ -9,12 +9,12 @@ use lib.Dec.{ltb}
 use lib.IntN.{pos, nat_abs, sub_ℕ}
 use lib.ListN.{get_or}
 use lib.Signed.{lt_z}
-use Rattle.base.proofs.Integers.{sub_up, sub_down, sub_ways, pos_minus}
+use Rattle.base.proofs.Integers.{sub_up, sub_ways, pos_minus}
 use Rattle.second.specs.Bins.{bin_of}
 use Rattle.base.proofs.Tests.{and_right}
-use Rattle.acceleration.specs.declared.Acceleration.TheVariants.{Rising, Falling}
-use Rattle.acceleration.specs.D.{speed_before, speed_after, d_of, has_d, numbered}
-use Rattle.acceleration.specs.Inside.{product_code}
+use Rattle.std.proofs.Common.{Some, None}
+use Rattle.acceleration.specs.D.{speed_before, speed_after, d_of, has_d}
+use Rattle.acceleration.specs.Inside.{product_counted}
 use Rattle.acceleration.specs.Products.{counts, product_of, counts_in}
 
 -- a - b is above 72 exactly when a is above b + 72
@@ -33,16 +33,6 @@ module _ (speeds : List ℕ) (i : ℕ) where
   unfolding d_of
   d_is = pos_minus (speed_after speeds i) (speed_before speeds i) (speed_after speeds i) (speed_before speeds i) refl
 
-  pub numbered_up : speed_before speeds i ≤ speed_after speeds i → numbered (d_of speeds i) ≡ Rising (speed_after speeds i - speed_before speeds i)
-  unfolding numbered
-  numbered_up h = ap numbered (d_is ∙ sub_up _ _ h)
-
-  pub numbered_down : speed_after speeds i < speed_before speeds i → numbered (d_of speeds i) ≡ Falling (speed_before speeds i - speed_after speeds i)
-  unfolding numbered
-  numbered_down h =
-      let size : suc (speed_before speeds i - suc (speed_after speeds i)) ≡ speed_before speeds i - speed_after speeds i = omega arith in
-      ap numbered (d_is ∙ sub_down _ _ h) ∙ ap Falling size
-
   -- the product where D is not below 0
   product_up : speed_before speeds i ≤ speed_after speeds i → product_of speeds i ≡ get_or speeds i 0 * (speed_after speeds i - speed_before speeds i)
   unfolding product_of
@@ -57,17 +47,17 @@ module _ (states speeds : List ℕ) (i : ℕ) where
   pub rises : has_d states i && ltb (speed_before speeds i + 72) (speed_after speeds i) ≡ true → speed_before speeds i + 72 < speed_after speeds i
   rises t = ltb-true (speed_before speeds i + 72) (speed_after speeds i) (and_right (has_d states i) (ltb (speed_before speeds i + 72) (speed_after speeds i)) t)
 
-  -- its code, by its bin and that test
+  -- its product, by its bin and that test
   module _ (bin : ℕ) where
-    pub code_in_other_bin : (bin_of (get_or speeds i 0) ≡ bin → ⊥) → product_code bin states speeds i ≡ 0
-    unfolding product_code counts_in
-    code_in_other_bin other = rw (ne_eqb (bin_of (get_or speeds i 0)) bin other, and-false (counts states speeds i)) refl
+    pub in_other_bin : (bin_of (get_or speeds i 0) ≡ bin → ⊥) → product_counted bin states speeds i ≡ None
+    unfolding product_counted counts_in
+    in_other_bin other = rw (ne_eqb (bin_of (get_or speeds i 0)) bin other, and-false (counts states speeds i)) refl
 
-    pub code_not_counted : has_d states i && ltb (speed_before speeds i + 72) (speed_after speeds i) ≡ false → product_code bin states speeds i ≡ 0
-    unfolding product_code counts_in
-    code_not_counted t = rw (counts_is ∙ t) refl
+    pub not_counted : has_d states i && ltb (speed_before speeds i + 72) (speed_after speeds i) ≡ false → product_counted bin states speeds i ≡ None
+    unfolding product_counted counts_in
+    not_counted t = rw (counts_is ∙ t) refl
 
-    pub code_counted : bin_of (get_or speeds i 0) ≡ bin → has_d states i && ltb (speed_before speeds i + 72) (speed_after speeds i) ≡ true → product_code bin states speeds i ≡ get_or speeds i 0 * (speed_after speeds i - speed_before speeds i) + 1
-    unfolding product_code counts_in
-    code_counted same t =
-        rw (counts_is ∙ t, eq-eqb (bin_of (get_or speeds i 0)) bin same) (ap (λ p. p + 1) (product_up speeds i (omega (arith, rises t))))
+    pub counted : bin_of (get_or speeds i 0) ≡ bin → has_d states i && ltb (speed_before speeds i + 72) (speed_after speeds i) ≡ true → product_counted bin states speeds i ≡ Some (get_or speeds i 0 * (speed_after speeds i - speed_before speeds i))
+    unfolding product_counted counts_in
+    counted same t =
+        rw (counts_is ∙ t, eq-eqb (bin_of (get_or speeds i 0)) bin same) (ap (λ (p : ℕ). Some p) (product_up speeds i (omega (arith, rises t))))

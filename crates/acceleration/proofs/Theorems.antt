@@ -5,18 +5,16 @@ use mathlib.Core.Bool.{Bool, true, false, not, ◌||◌, or-true}
 use mathlib.Core.Logic.{inl, inr, ◌↔◌}
 use borrow.Author.Tests.{ltb-true, ltb-false, leb-true, leb-false, lt-ltb, le-ltb, le-leb, lt-leb, eq-eqb}
 use lib.Dec.{leb, ltb, eqb}
-use lib.IntN.{ℤ, pos, negsuc}
-use Rattle.base.specs.Refusal.{fault}
+use Rattle.std.proofs.Common.{Some, None, Ok, Err}
+use Rattle.base.specs.Refusal.{Fault, fault}
 use Rattle.base.specs.Limits.{trip_limit}
 use Rattle.base.specs.Second.{too_many}
 use Rattle.base.specs.Words.{pick}
-use Rattle.base.specs.declared.Fault.{Fault}
 use Rattle.second.specs.Lanes.{Lanes, seconds_in, lanes_agree, first_bad_second, none_has_values}
 use Rattle.second.proofs.Lanes.{agree, agrees, not_agree}
 use Rattle.second.proofs.Facts.{first_bad_at, is_first_bad, has_bad, all_in_range, has_no_bad, says_none, some_second, says_some}
 use Rattle.second.proofs.Facts as facts
-use Rattle.acceleration.specs.declared.Acceleration.TheVariants.{None, Refused}
-use Rattle.acceleration.specs.D.{d_of, has_d, numbered, fault_of, acceleration_of, fault_in}
+use Rattle.acceleration.specs.D.{d_of, has_d, fault_of, acceleration_of, fault_in}
 use Rattle.acceleration.specs.Outcomes.{Outcome, if_lanes_differ, if_too_many, if_out_of_range, if_no_second, fine}
 
 module _ (trip : Lanes) (i : ℕ) where
@@ -59,26 +57,21 @@ module _ (trip : Lanes) (i : ℕ) where
 
   -- the answer's number and place are those of the chain of tests
   pub answer_fault : fault_in (acceleration_of trip i) ≡ fault_of trip i
-  unfolding acceleration_of fault_in numbered
+  unfolding acceleration_of fault_in
   answer_fault = go (fault_of trip i) outcome
     where
-      accepted_fault : (t : Bool) (z : ℤ) → fault_in (pick t (numbered z) None) ≡ fault 0 0
-      accepted_fault true (pos d) = refl
-      accepted_fault true (negsuc d) = refl
-      accepted_fault false z = refl
-
-      go : (f : Fault) → Outcome trip i f → fault_in (pick (eqb f.number 0) (pick (has_d trip.states i) (numbered (d_of trip.speeds i)) None) (Refused f)) ≡ f
+      go : (f : Fault) → Outcome trip i f → fault_in (pick (eqb f.number 0) (Ok (pick (has_d trip.states i) (Some (d_of trip.speeds i)) None)) (Err f)) ≡ f
       go _ (if_lanes_differ differ) = refl
       go _ (if_too_many same h) = refl
       go _ (if_out_of_range same few place at) = refl
       go _ (if_no_second same few good none) = refl
-      go _ (fine same few good some inside) = accepted_fault (has_d trip.states i) (d_of trip.speeds i)
+      go _ (fine same few good some inside) = refl
 
   -- accepted: D where the second has one, and that it has none where it has not
-  pub accepted_has : (fault_of trip i).number ≡ 0 → has_d trip.states i ≡ true → acceleration_of trip i ≡ numbered (d_of trip.speeds i)
+  pub accepted_has : (fault_of trip i).number ≡ 0 → has_d trip.states i ≡ true → acceleration_of trip i ≡ Ok (Some (d_of trip.speeds i))
   unfolding acceleration_of
   accepted_has h has = rw (eq-eqb (fault_of trip i).number 0 h, has) refl
 
-  pub accepted_none : (fault_of trip i).number ≡ 0 → has_d trip.states i ≡ false → acceleration_of trip i ≡ None
+  pub accepted_none : (fault_of trip i).number ≡ 0 → has_d trip.states i ≡ false → acceleration_of trip i ≡ Ok None
   unfolding acceleration_of
   accepted_none h none = rw (eq-eqb (fault_of trip i).number 0 h, none) refl

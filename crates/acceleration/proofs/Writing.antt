@@ -6,13 +6,14 @@ use mathlib.Core.List.{List, [], ◌∷◌, ◌++◌}
 use native.Mathlib.Numerals.{add-one}
 use native.Mathlib.Omega.{arith}
 use lib.ListN.{length, set, length-append, length-set}
+use Rattle.std.proofs.Common.{Some, None}
 use Rattle.base.proofs.Store.{store_next}
 use Rattle.base.specs.Words.{pick, sum, with_front}
 use Rattle.base.proofs.Choice.{both_ways}
 use Rattle.base.proofs.Seconds.{after_none, after_more}
 use Rattle.base.proofs.Sums.{sum-append}
 use Rattle.acceleration.specs.declared.Products.{Products}
-use Rattle.acceleration.specs.Inside.{product_code, figures_of}
+use Rattle.acceleration.specs.Inside.{product_counted, figures_of}
 use Rattle.acceleration.specs.Products.{product_of, counts_in, products_after}
 
 module _ (bin : ℕ) (states speeds : List ℕ) where
@@ -20,23 +21,23 @@ module _ (bin : ℕ) (states speeds : List ℕ) where
   unfolding products_after
   products_none = after_none _ _
 
-  -- one second more, by its code
-  pub products_more : (i : ℕ) → 0 < product_code bin states speeds i → products_after bin states speeds (i + 1) ≡ products_after bin states speeds i ++ ((product_code bin states speeds i - 1) ∷ [])
-  unfolding products_after product_code
-  products_more i = go (counts_in bin states speeds i) refl
+  -- one second more, by its product
+  pub products_more : (i product : ℕ) → product_counted bin states speeds i ≡ Some product → products_after bin states speeds (i + 1) ≡ products_after bin states speeds i ++ (product ∷ [])
+  unfolding products_after product_counted
+  products_more i product = go (counts_in bin states speeds i) refl
     where
-      go : (t : Bool) → counts_in bin states speeds i ≡ t → 0 < pick t (product_of speeds i + 1) 0 → products_after bin states speeds (i + 1) ≡ products_after bin states speeds i ++ ((pick t (product_of speeds i + 1) 0 - 1) ∷ [])
+      go : (t : Bool) → counts_in bin states speeds i ≡ t → pick t (Some (product_of speeds i)) None ≡ Some product → products_after bin states speeds (i + 1) ≡ products_after bin states speeds i ++ (product ∷ [])
       go true q h =
-          let less : product_of speeds i ≡ product_of speeds i + 1 - 1 = omega arith in
-          after_more _ _ i ∙ rw q (ap (λ x. products_after bin states speeds i ++ (x ∷ [])) less)
-      go false q h = absurd (omega arith)
+          let same : product_of speeds i ≡ product = cc in
+          after_more _ _ i ∙ rw q (ap (λ x. products_after bin states speeds i ++ (x ∷ [])) same)
+      go false q h = absurd (cc)
 
-  pub products_same : (i : ℕ) → product_code bin states speeds i ≤ 0 → products_after bin states speeds (i + 1) ≡ products_after bin states speeds i
-  unfolding products_after product_code
+  pub products_same : (i : ℕ) → product_counted bin states speeds i ≡ None → products_after bin states speeds (i + 1) ≡ products_after bin states speeds i
+  unfolding products_after product_counted
   products_same i = go (counts_in bin states speeds i) refl
     where
-      go : (t : Bool) → counts_in bin states speeds i ≡ t → pick t (product_of speeds i + 1) 0 ≤ 0 → products_after bin states speeds (i + 1) ≡ products_after bin states speeds i
-      go true q h = absurd (omega arith)
+      go : (t : Bool) → counts_in bin states speeds i ≡ t → pick t (Some (product_of speeds i)) None ≡ None → products_after bin states speeds (i + 1) ≡ products_after bin states speeds i
+      go true q h = absurd (cc)
       go false q h = after_more _ _ i ∙ rw q refl
 
   -- one more where the second counts, so never fewer, and no more than the seconds
@@ -63,7 +64,6 @@ module _ (bin : ℕ) (states speeds : List ℕ) where
 
   -- after the first i seconds: the lane begins with their products, and the rest of it is as it was
   pub record Written (lane₀ : List ℕ) (i : ℕ) (lane : List ℕ) (count total : ℕ) : Type 0 where
-    pub within : i ≤ length states
     pub counted : count ≡ length (products_after bin states speeds i)
     pub added : total ≡ sum (products_after bin states speeds i)
     pub small : total ≤ 2 ^ 32 * i
@@ -74,7 +74,6 @@ module _ (bin : ℕ) (states speeds : List ℕ) where
   unfolding sum
   written_none lane₀ =
       record {
-        within = omega arith;
         counted = rw products_none refl;
         added = rw products_none refl;
         small = omega arith;
@@ -82,12 +81,11 @@ module _ (bin : ℕ) (states speeds : List ℕ) where
         long = refl;
       }
 
-  module _ {lane₀ lane : List ℕ} {i count total : ℕ} (w : Written lane₀ i lane count total) (h : i < length states) {code : ℕ} (is : code ≡ product_code bin states speeds i) where
-    pub written_same : code ≤ 0 → Written lane₀ (i + 1) lane count total
+  module _ {lane₀ lane : List ℕ} {i count total : ℕ} (w : Written lane₀ i lane count total) where
+    pub written_same : product_counted bin states speeds i ≡ None → Written lane₀ (i + 1) lane count total
     written_same none =
-        let same : products_after bin states speeds (i + 1) ≡ products_after bin states speeds i = products_same i (omega arith) in
+        let same : products_after bin states speeds (i + 1) ≡ products_after bin states speeds i = products_same i none in
         record {
-          within = omega arith;
           counted = rw same w.counted;
           added = rw same w.added;
           small = omega (arith, w.small);
@@ -95,12 +93,12 @@ module _ (bin : ℕ) (states speeds : List ℕ) where
           long = w.long;
         }
 
-    module _ (some : 0 < code) (room : length (products_after bin states speeds (length states)) ≤ length lane₀) where
-      more : products_after bin states speeds (i + 1) ≡ products_after bin states speeds i ++ ((code - 1) ∷ [])
-      more = rw is (products_more i (omega arith))
+    module _ (h : i < length states) {product : ℕ} (is : product_counted bin states speeds i ≡ Some product) (room : length (products_after bin states speeds (length states)) ≤ length lane₀) where
+      more : products_after bin states speeds (i + 1) ≡ products_after bin states speeds i ++ (product ∷ [])
+      more = products_more i product is
 
       longer : length (products_after bin states speeds (i + 1)) ≡ length (products_after bin states speeds i) + 1
-      longer = ap length more ∙ length-append (products_after bin states speeds i) ((code - 1) ∷ [])
+      longer = ap length more ∙ length-append (products_after bin states speeds i) (product ∷ [])
 
       fits : length (products_after bin states speeds i) < length lane₀
       fits =
@@ -112,29 +110,21 @@ module _ (bin : ℕ) (states speeds : List ℕ) where
       pub has_room : count < length lane
       has_room = omega (arith, fits, w.counted, w.long)
 
-      pub written_more : code < 2 ^ 32 → Written lane₀ (i + 1) (set lane count (code - 1)) (count + 1) (total + (code - 1))
+      pub written_more : product < 2 ^ 32 → Written lane₀ (i + 1) (set lane count product) (count + 1) (total + product)
       unfolding sum
       written_more fits32 =
           record {
-            within = omega arith;
             counted = omega (arith, longer, w.counted);
-            added = ap (λ t. t + (code - 1)) w.added ∙ sym (ap sum more ∙ sum-append (products_after bin states speeds i) ((code - 1) ∷ []) ∙ ap (λ t. sum (products_after bin states speeds i) + t) last);
+            added = ap (λ t. t + product) w.added ∙ sym (ap sum more ∙ sum-append (products_after bin states speeds i) (product ∷ []) ∙ ap (λ t. sum (products_after bin states speeds i) + t) last);
             small = omega (arith, w.small);
-            stored = rw (w.stored, w.counted, longer, more) (store_next (products_after bin states speeds i) lane₀ (length (products_after bin states speeds i)) (code - 1) refl fits);
-            long = length-set lane count (code - 1) ∙ w.long;
+            stored = rw (w.stored, w.counted, longer, more) (store_next (products_after bin states speeds i) lane₀ (length (products_after bin states speeds i)) product refl fits);
+            long = length-set lane count product ∙ w.long;
           }
         where
-          last : code - 1 + 0 ≡ code - 1
+          last : product + 0 ≡ product
           last = omega arith
 
   -- after all seconds
-  module _ {lane₀ lane : List ℕ} {i count total : ℕ} (w : Written lane₀ i lane count total) (end : length states ≤ i) where
-    all : i ≡ length states
-    all = omega (arith, w.within)
-
-    pub all_counted : ◌≡◌ {A = Products} (record { count = count; total = total }) (figures_of (products_after bin states speeds (length states)))
-    unfolding figures_of
-    all_counted = rw (w.counted, w.added, all) refl
-
-    pub all_stored : lane ≡ with_front (products_after bin states speeds (length states)) lane₀
-    all_stored = rw (sym all) w.stored
+  pub all_counted : {lane₀ lane : List ℕ} {i count total : ℕ} → Written lane₀ i lane count total → ◌≡◌ {A = Products} (record { count = count; total = total }) (figures_of (products_after bin states speeds i))
+  unfolding figures_of
+  all_counted w = rw (w.counted, w.added) refl

@@ -1,13 +1,10 @@
 -- D of a second (Appendix 7a). Seconds are counted from 0.
-use Rattle.std.specs.Prelude.{ℕ, zero, suc, ◌+◌, Bool, true, not, ◌&&◌, ◌||◌, List, leb, ltb, eqb, ℤ, pos, negsuc, ◌-ℤ◌, get_or}
-use Rattle.base.specs.Refusal.{accepted, lanes_differ, too_many_values, out_of_range, no_second, fault}
+use Rattle.std.specs.Prelude.{ℕ, zero, suc, ◌+◌, Bool, true, not, ◌&&◌, ◌||◌, List, leb, ltb, eqb, Option, Some, None, Result, Ok, Err, ℤ, pos, ◌-ℤ◌, get_or}
+use Rattle.base.specs.Refusal.{Fault, accepted, lanes_differ, too_many_values, out_of_range, no_second, fault}
 use Rattle.base.specs.Second.{measured, too_many}
 use Rattle.base.specs.Words.{pick}
-use Rattle.base.specs.declared.Fault.{Fault}
 use Rattle.second.specs.Row.{has_values}
 use Rattle.second.specs.Lanes.{Lanes, seconds_in, lanes_agree, first_bad_second, none_has_values}
-use Rattle.acceleration.specs.declared.Acceleration.{Acceleration}
-use Rattle.acceleration.specs.declared.Acceleration.TheVariants.{Rising, Falling, None, Refused}
 
 -- "before the first and after the last second the speed is 0"
 unfoldable pub speed_before : List ℕ → ℕ → ℕ
@@ -42,19 +39,12 @@ fault_of trip i =
     (pick (none_has_values trip.states || leb (seconds_in trip) i) (fault no_second 0)
     (fault accepted 0))))
 
--- a number as a case of the answer
-unfoldable pub numbered : ℤ → Acceleration
-numbered (pos d) = Rising d
-numbered (negsuc d) = Falling (suc d)
-
 -- "the D of one second of a trip's lanes by index from 0, or that it has none"
-unfoldable pub acceleration_of : Lanes → ℕ → Acceleration
+unfoldable pub acceleration_of : Lanes → ℕ → Result (Option ℤ) Fault
 acceleration_of trip i =
-    pick (eqb (fault_of trip i).number accepted) (pick (has_d trip.states i) (numbered (d_of trip.speeds i)) None) (Refused (fault_of trip i))
+    pick (eqb (fault_of trip i).number accepted) (Ok (pick (has_d trip.states i) (Some (d_of trip.speeds i)) None)) (Err (fault_of trip i))
 
 -- the number of refusal and the place of an answer
-unfoldable pub fault_in : Acceleration → Fault
-fault_in (Refused given) = given
-fault_in (Rising d) = fault accepted 0
-fault_in (Falling d) = fault accepted 0
-fault_in None = fault accepted 0
+unfoldable pub fault_in : Result (Option ℤ) Fault → Fault
+fault_in (Err given) = given
+fault_in (Ok found) = fault accepted 0

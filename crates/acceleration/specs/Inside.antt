@@ -1,5 +1,5 @@
 -- What the steps that write a bin's products promise and may take for granted.
-use Rattle.std.specs.Prelude.{ℕ, ◌+◌, ◌≤◌, ◌≡◌, List, length}
+use Rattle.std.specs.Prelude.{ℕ, ◌≤◌, ◌≡◌, Option, Some, None, List, length}
 use Rattle.base.specs.Limits.{trip_limit}
 use Rattle.base.specs.Words.{pick, sum}
 use Rattle.acceleration.specs.declared.Products.{Products}
@@ -14,6 +14,6 @@ pub record SpeedLanes (states speeds : List ℕ) : Type 0 where
 unfoldable pub figures_of : List ℕ → Products
 figures_of products = record { count = length products; total = sum products }
 
--- a product as one number: one more than it, and 0 where the second does not count in the bin
-unfoldable pub product_code : ℕ → List ℕ → List ℕ → ℕ → ℕ
-product_code bin states speeds i = pick (counts_in bin states speeds i) (product_of speeds i + 1) 0
+-- the product of a second that counts in the bin
+unfoldable pub product_counted : ℕ → List ℕ → List ℕ → ℕ → Option ℕ
+product_counted bin states speeds i = pick (counts_in bin states speeds i) (Some (product_of speeds i)) None

@@ -1,8 +1,7 @@
 -- When each number of D of one second is given: "(1, 2, 3, 4)".
 use Rattle.std.specs.Prelude.{ℕ, ◌≤◌, ◌<◌, ◌⊎◌}
-use Rattle.base.specs.Refusal.{accepted, lanes_differ, too_many_values, out_of_range, no_second, fault}
+use Rattle.base.specs.Refusal.{Fault, accepted, lanes_differ, too_many_values, out_of_range, no_second, fault}
 use Rattle.base.specs.Limits.{trip_limit}
-use Rattle.base.specs.declared.Fault.{Fault}
 use Rattle.second.specs.Lanes.{Lanes, seconds_in, SameLengths}
 use Rattle.second.specs.Facts.{FirstBadAt, AllInRange, NoSecond, SomeSecond}
 

@@ -1,23 +1,16 @@
 // D of a second, and the products of the seconds that count in a bin (Appendix 7a).
 #![tactic(auto)]
 
-ghost use Rattle.std.specs.Prelude.{◌≡◌, ◌<◌, ◌≤◌, length};
+ghost use Rattle.std.specs.Prelude.{◌≡◌, ◌^◌, ◌<◌, ◌≤◌, length, nat_abs, IfOk, IfSome};
+ghost use Rattle.base.specs.Refusal.{fault_in, answer_in};
 ghost use Rattle.base.specs.Words.{with_front};
-ghost use Rattle.second.specs.Lanes.{lanes_of};
-ghost use Rattle.acceleration.specs.D.{speed_before, speed_after, has_before, has_after, has_d, numbered, d_of, fault_of, acceleration_of};
-ghost use Rattle.acceleration.specs.Inside.{SpeedLanes, product_code, figures_of};
+ghost use Rattle.second.specs.Inside.{lanes_in};
+ghost use Rattle.acceleration.specs.D.{speed_before, speed_after, has_before, has_after, has_d, d_of, fault_of, acceleration_of};
+ghost use Rattle.acceleration.specs.Inside.{SpeedLanes, product_counted, figures_of};
 ghost use Rattle.acceleration.specs.Products.{products_of};
 
-use base::Fault;
-
-// The answer for one second.
-#[derive(Clone, Copy)]
-pub enum Acceleration {
-    Rising(u16), // D, where it is not below 0
-    Falling(u16), // how far D is below 0
-    None, // the second is missing, or one beside it
-    Refused(Fault), // 1, 2, 3 or 4
-}
+use base::{Refusal, Refused};
+use second::Trip;
 
 // The products of a bin.
 #[derive(Clone, Copy)]
@@ -29,58 +22,43 @@ pub struct Products {
 // A second counts where its D is above this.
 const D_COUNTS: u32 = 72;
 
-// D of second i, counted from 0.
-pub fn d_of_second(
-    states: &[u8],
-    speeds: &[u16],
-    altitudes: &[i32],
-    co2: &[u32],
-    nox: &[u32],
-    i: usize,
-) -> Acceleration
-    ensures { let trip = lanes_of states.now speeds.now altitudes.now co2.now nox.now in
-        result ≡ acceleration_of trip i }
+// D of second i, counted from 0, and that it has none where it is missing, or one beside it.
+pub fn d_of_second(trip: &Trip<'_>, i: usize) -> Result<Option<i32>, Refused>
+    ensures value { answer_in result ≡ acceleration_of (lanes_in trip.now) i }
+    ensures of_16_bits { IfOk result (λ found. IfSome found (λ d. nat_abs d < 2 ^ 16)) }
 {
-    let fault = fault_of(states, speeds, altitudes, co2, nox, i);
-    let number = fault.number;
-    if number != base::refusal::ACCEPTED {
-        return Acceleration::Refused(fault);
+    check(trip, i)?;
+    if has_d(trip.states, i) {
+        return Ok(Some(d_of(trip.speeds, i)));
     }
-    if has_d(states, i) {
-        return d_of(speeds, i);
-    }
-    Acceleration::None
+    Ok(None)
 }
 
 // What is refused of a trip's lanes and an index: 1, 2, 3, then 4.
-fn fault_of(
-    states: &[u8],
-    speeds: &[u16],
-    altitudes: &[i32],
-    co2: &[u32],
-    nox: &[u32],
-    i: usize,
-) -> Fault
-    ensures { let trip = lanes_of states.now speeds.now altitudes.now co2.now nox.now in
-        result ≡ fault_of trip i }
+fn check(trip: &Trip<'_>, i: usize) -> Result<(), Refused>
+    ensures { fault_in result ≡ fault_of (lanes_in trip.now) i }
 {
-    if !second::lanes_agree(states, speeds, altitudes, co2, nox) {
-        return base::fault_at(base::refusal::LANES_DIFFER, 0);
+    if !trip.agree() {
+        return Err(Refused::from(Refusal::LanesDiffer));
     }
-    if base::too_many(states.len()) {
-        return base::fault_at(base::refusal::TOO_MANY, 0);
+    let seconds = trip.seconds();
+    if base::too_many(seconds) {
+        return Err(Refused::from(Refusal::TooMany));
     }
-    let bad = second::first_bad(states, speeds, altitudes, co2, nox);
-    if bad < states.len() {
-        return base::fault_at(base::refusal::OUT_OF_RANGE, bad);
+    if let Some(place) = trip.first_bad() {
+        return Err(Refused {
+            refusal: Refusal::OutOfRange,
+            place,
+        });
     }
-    if second::none_has_values(states) | (states.len() <= i) {
-        return base::fault_at(base::refusal::NO_SECOND, 0);
+    if second::none_has_values(trip.states) | (seconds <= i) {
+        return Err(Refused::from(Refusal::NoSecond));
     }
-    base::fault_at(base::refusal::ACCEPTED, 0)
+    Ok(())
 }
 
 // Whether second i has D: neither it nor one beside it is missing.
+#[tactic(auto, unfolding(crate::specs::D::has_d))]
 fn has_d(states: &[u8], i: usize) -> bool
     requires { i < length states.now }
     ensures { result ≡ has_d states.now i }
@@ -93,10 +71,7 @@ fn has_before(states: &[u8], i: usize) -> bool
     requires { i < length states.now }
     ensures { result ≡ has_before states.now i }
 {
-    if i == 0 {
-        return true;
-    }
-    second::has_values(states[i - 1])
+    i == 0 || second::has_values(states[i - 1])
 }
 
 // Whether the second after second i is not missing.
@@ -104,23 +79,19 @@ fn has_after(states: &[u8], i: usize) -> bool
     requires { i < length states.now }
     ensures { result ≡ has_after states.now i }
 {
-    if i + 1 < states.len() {
-        return second::has_values(states[i + 1]);
+    match states.get(i + 1) {
+        Some(state) => second::has_values(*state),
+        None => true,
     }
-    true
 }
 
-// D of second i as a number up or down.
-fn d_of(speeds: &[u16], i: usize) -> Acceleration
+// D of second i.
+fn d_of(speeds: &[u16], i: usize) -> i32
     requires { i < length speeds.now }
-    ensures { result ≡ numbered (d_of speeds.now i) }
+    ensures value { result ≡ d_of speeds.now i }
+    ensures of_16_bits { nat_abs result < 2 ^ 16 }
 {
-    let before = speed_before(speeds, i);
-    let after = speed_after(speeds, i);
-    if before <= after {
-        return Acceleration::Rising(after - before);
-    }
-    Acceleration::Falling(before - after)
+    i32::from(speed_after(speeds, i)) - i32::from(speed_before(speeds, i))
 }
 
 // The speed before second i, 0 before the first.
@@ -128,59 +99,53 @@ fn speed_before(speeds: &[u16], i: usize) -> u16
     requires { i < length speeds.now }
     ensures { result ≡ speed_before speeds.now i }
 {
-    if i == 0 {
-        return 0;
+    match i.checked_sub(1) {
+        Some(before) => speeds[before],
+        None => 0,
     }
-    speeds[i - 1]
 }
 
 // The speed after second i, 0 after the last.
+#[tactic(auto, unfolding(crate::specs::D::speed_after))]
 fn speed_after(speeds: &[u16], i: usize) -> u16
     requires { i < length speeds.now }
     ensures { result ≡ speed_after speeds.now i }
 {
-    if i + 1 < speeds.len() {
-        return speeds[i + 1];
-    }
-    0
+    speeds.get(i + 1).copied().unwrap_or(0)
 }
 
 // Writes the products of a bin to the front of a lane, in the order of the seconds.
-pub fn write_products(states: &[u8], speeds: &[u16], bin: usize, lane: &mut [u32]) -> Products
-    requires speed_lanes { SpeedLanes states.now speeds.now }
-    requires room { length (products_of bin states.now speeds.now) ≤ length lane.old }
-    ensures value { result ≡ figures_of (products_of bin states.now speeds.now) }
-    ensures lane_after { lane.new ≡ with_front (products_of bin states.now speeds.now) lane.old }
+pub fn write_products(trip: &Trip<'_>, bin: usize, lane: &mut [u32]) -> Products
+    requires speed_lanes { SpeedLanes trip.now.states.now trip.now.speeds.now }
+    requires room { length (products_of bin trip.now.states.now trip.now.speeds.now) ≤ length lane.old }
+    ensures value { result ≡ figures_of (products_of bin trip.now.states.now trip.now.speeds.now) }
+    ensures lane_after { lane.new ≡ with_front (products_of bin trip.now.states.now trip.now.speeds.now) lane.old }
 {
     let mut count = 0;
-    let mut total: u64 = 0;
-    let mut i = 0;
-    while i < states.len() {
-        let code = product_code(states, speeds, bin, i);
-        i += 1;
-        if 0 < code {
-            let product = code - 1;
+    let mut total = 0;
+    for i in 0..trip.seconds() {
+        if let Some(product) = product_counted(trip, bin, i) {
             lane[count] = product;
             count += 1;
-            total += product as u64;
+            total += u64::from(product);
         }
     }
     Products { count, total }
 }
 
-// One more than the product of second i, and 0 where it does not count or is in another bin.
-fn product_code(states: &[u8], speeds: &[u16], bin: usize, i: usize) -> u32
-    requires { (i < length states.now) × (i < length speeds.now) }
-    ensures { result ≡ product_code bin states.now speeds.now i }
+// The product of second i, where it counts and is in the bin.
+fn product_counted(trip: &Trip<'_>, bin: usize, i: usize) -> Option<u32>
+    requires { (i < length trip.now.states.now) × (i < length trip.now.speeds.now) }
+    ensures { result ≡ product_counted bin trip.now.states.now trip.now.speeds.now i }
 {
-    let speed = speeds[i];
-    if second::bin_of(speed) != bin {
-        return 0;
+    let speed = trip.speeds[i];
+    if second::road_of(speed).index() != bin {
+        return None;
     }
-    let before = speed_before(speeds, i) as u32;
-    let after = speed_after(speeds, i) as u32;
-    if has_d(states, i) & (before + D_COUNTS < after) {
-        return speed as u32 * (after - before) + 1;
+    let before = u32::from(speed_before(trip.speeds, i));
+    let after = u32::from(speed_after(trip.speeds, i));
+    if has_d(trip.states, i) & (before + D_COUNTS < after) {
+        return Some(u32::from(speed) * (after - before));
     }
-    0
+    None
 }

@@ -1,4 +1,4 @@
--- The laws of the words that every definition uses, of tests, searches and stores, of differences of numbers and of altitudes. Callers cite these and not the definitions' text.
+-- The laws of the words that every definition uses, of tests, numbers of refusal, searches and stores, of differences of numbers and of altitudes. Callers cite these and not the definitions' text.
 pub mod Choice
 pub mod Tests
 pub mod Seconds
@@ -7,6 +7,8 @@ pub mod SumOver
 pub mod HowMany
 pub mod FirstWhere
 pub mod FirstBad
+pub mod Lists
+pub mod Numbers
 pub mod Search
 pub mod Store
 pub mod Products

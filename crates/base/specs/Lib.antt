@@ -7,4 +7,3 @@ pub mod Plan
 pub mod Words
 pub mod Fraction
 pub mod InFront
-pub mod Inside

@@ -1,6 +1,8 @@
 -- The numbers of refusal: "given exactly when".
-use Rattle.std.specs.Prelude.{ℕ}
-use Rattle.base.specs.declared.Fault.{Fault}
+use Rattle.std.specs.Prelude.{ℕ, Result, Ok, Err}
+use Rattle.base.specs.declared.refusal.Refusal.{Refusal}
+use Rattle.base.specs.declared.refusal.Refusal.TheVariants.{LanesDiffer, TooMany, OutOfRange, NoSecond, PlanOutOfRange, LaneTooShort, CutItem, UnknownKind, MassInput, MassTooLarge, PlanMisplaced, TooFewValues, StateNotReached}
+use Rattle.base.specs.declared.refusal.Refused.{Refused}
 
 -- accepted
 abbrev pub accepted : ℕ
@@ -59,5 +61,44 @@ abbrev pub state_not_reached : ℕ
 state_not_reached = 13
 
 -- "A refusal returns its number and a place"
+pub record Fault : Type 0 where
+  pub number : ℕ
+  pub place : ℕ
+
 abbrev pub fault : ℕ → ℕ → Fault
 fault number place = record { number = number; place = place }
+
+-- the number of a refusal, by its name in the code
+abbrev pub number_of : Refusal → ℕ
+number_of LanesDiffer = lanes_differ
+number_of TooMany = too_many_values
+number_of OutOfRange = out_of_range
+number_of NoSecond = no_second
+number_of PlanOutOfRange = plan_out_of_range
+number_of LaneTooShort = lane_too_short
+number_of CutItem = cut_item
+number_of UnknownKind = unknown_kind
+number_of MassInput = mass_input
+number_of MassTooLarge = mass_too_large
+number_of PlanMisplaced = plan_misplaced
+number_of TooFewValues = too_few_values
+number_of StateNotReached = state_not_reached
+
+-- a refusal as the code holds it: its number and its place
+abbrev pub fault_of : Refused → Fault
+fault_of refused = fault (number_of refused.refusal) refused.place
+
+-- what is refused, number 0 and place 0 where nothing is
+abbrev pub fault_in : {A : Type 0} → Result A Refused → Fault
+fault_in (Ok answer) = fault accepted 0
+fault_in (Err refused) = fault_of refused
+
+-- an answer, or what is refused by its number and its place
+abbrev pub answer_in : {A : Type 0} → Result A Refused → Result A Fault
+answer_in (Ok answer) = Ok answer
+answer_in (Err refused) = Err (fault_of refused)
+
+-- the number of a refusal that has no place of its own, 0 where nothing is refused
+abbrev pub number_in : {A : Type 0} → Result A Refusal → ℕ
+number_in (Ok answer) = accepted
+number_in (Err refusal) = number_of refusal

@@ -8,32 +8,16 @@ pub mod refusal;
 pub mod road;
 pub mod state;
 
-ghost use Rattle.std.specs.Prelude.{◌≡◌, ◌<◌, min, pos, length, get_or};
-ghost use Rattle.base.specs.Inside.{altitude_code};
-ghost use Rattle.base.specs.Second.{too_many, state_known, speed_in_range, co2_in_range, nox_in_range};
-ghost use Rattle.base.specs.Refusal.{fault};
+ghost use Rattle.std.specs.Prelude.{◌≡◌};
+ghost use Rattle.base.specs.Second.{too_many, state_known, speed_in_range, altitude_in_range, co2_in_range, nox_in_range};
 ghost use Rattle.base.specs.Plan.{reference_in_range, curve_in_range, tolerance_in_range, plan_in_range};
 
-// A refusal: its number, and the index of the first bad second or value where the number is 3.
-#[derive(Clone, Copy)]
-pub struct Fault {
-    pub number: u8,
-    pub place: usize,
-}
-
-// A refusal by its number and its place.
-pub fn fault_at(number: u8, place: usize) -> Fault
-    ensures { result ≡ fault number place }
-{
-    Fault {
-        number: number,
-        place: place,
-    }
-}
+pub use refusal::{Refusal, Refused};
+pub use road::Road;
 
 // What a trip is judged by, fixed before the drive.
 #[repr(C)]
-#[derive(Clone, Copy)]
+#[derive(Clone, Copy, PartialEq, Eq)]
 pub struct Plan {
     pub reference: u32, // reference CO2 mass, mg: half the laboratory cycle's
     pub e1: u32, // curve value E1, mg/km
@@ -60,6 +44,7 @@ pub fn plan_in_range(plan: Plan) -> bool
 }
 
 // Whether a reference mass, in mg, is in its range.
+// Kept: no plainer: each range is one comparison with its own limit; one function of all would be that comparison.
 pub fn reference_in_range(reference: u32) -> bool
     ensures { result ≡ reference_in_range reference }
 {
@@ -88,6 +73,7 @@ pub fn too_many(n: usize) -> bool
 }
 
 // Whether a state is one of the three.
+// Kept: the C interface: a state is a byte of a lane, and any byte has an answer.
 pub fn state_known(state: u8) -> bool
     ensures { result ≡ state_known state }
 {
@@ -101,18 +87,11 @@ pub fn speed_in_range(speed: u16) -> bool
     speed <= limits::SPEED
 }
 
-// The altitude of second i as a number from 0 up: 1 at the lowest altitude, one more for each cm
-// above it, and 0 where it is out of range.
-pub fn altitude_code(altitudes: &[i32], i: usize) -> u32
-    requires { i < length altitudes.now }
-    ensures { result ≡ altitude_code (get_or altitudes.now i (pos 0)) }
+// Whether an altitude, in cm, is in its range.
+pub fn altitude_in_range(altitude: i32) -> bool
+    ensures { result ≡ altitude_in_range altitude }
 {
-    let altitude = altitudes[i];
-    if (limits::ALTITUDE_LOWEST <= altitude) & (altitude <= limits::ALTITUDE_HIGHEST) {
-        (altitude - limits::ALTITUDE_LOWEST) as u32 + 1
-    } else {
-        0
-    }
+    (limits::ALTITUDE_LOWEST <= altitude) & (altitude <= limits::ALTITUDE_HIGHEST)
 }
 
 // Whether a CO2 mass, in mg in the second, is in its range.
@@ -127,11 +106,4 @@ pub fn nox_in_range(nox: u32) -> bool
     ensures { result ≡ nox_in_range nox }
 {
     nox <= limits::NOX
-}
-
-// The lesser of two numbers of places.
-pub fn least(a: usize, b: usize) -> usize
-    ensures { result ≡ min a b }
-{
-    if a <= b { a } else { b }
 }

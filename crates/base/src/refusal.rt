@@ -1,43 +1,84 @@
-// The numbers of refusal, each given exactly when the paper's table says so.
+// Why input is refused: each refusal is given exactly when the paper's table says so, under the paper's
+// number.
 
-// No refusal.
+ghost use Rattle.std.specs.Prelude.{◌≡◌, ◌≢◌, MatchResult};
+ghost use Rattle.base.specs.Refusal.{fault, number_of, fault_of};
+
+// What crosses in place of a refusal's number where there is none.
+// Kept: the C interface: the answers of C have a number where a refusal may be none.
 pub const ACCEPTED: u8 = 0;
 
-// Lanes of one trip differ in length.
-pub const LANES_DIFFER: u8 = 1;
+// A refusal, with the paper's number.
+#[derive(Clone, Copy, PartialEq, Eq)]
+pub enum Refusal {
+    LanesDiffer = 1, // lanes of one trip differ in length
+    TooMany = 2, // more than 8,192 seconds or values
+    OutOfRange = 3, // a state or value out of range
+    NoSecond = 4, // no second in state 1 or 3, or an asked index past the end
+    PlanOutOfRange = 5, // plan out of range
+    LaneTooShort = 6, // a lane to be written is too short
+    CutItem = 7, // stream ends inside an item
+    UnknownKind = 8, // unknown kind
+    MassInput = 9, // a mass input not finite or out of range
+    MassTooLarge = 10, // the whole-part mass above the second's range
+    PlanMisplaced = 11, // plan absent, late or repeated
+    TooFewValues = 12, // percentile asked of fewer than 100 values
+    StateNotReached = 13, // sweep state that these kept seconds and this reference never reach
+}
 
-// More than 8,192 seconds or values.
-pub const TOO_MANY: u8 = 2;
+// A refusal crosses as its number.
+impl From<Refusal> for u8 {
+    ghost from_gives = { λ refusal number. number ≡ number_of refusal };
 
-// A state or value out of range.
-pub const OUT_OF_RANGE: u8 = 3;
+    fn from(refusal: Refusal) -> u8 {
+        refusal as u8
+    }
+}
 
-// No second in state 1 or 3, or an asked index past the end.
-pub const NO_SECOND: u8 = 4;
+// The refusal with a number that comes back: none has another number.
+impl TryFrom<u8> for Refusal {
+    ghost use Rattle.base.specs.declared.refusal.Refusal.{Refusal};
 
-// Plan out of range.
-pub const PLAN_OUT_OF_RANGE: u8 = 5;
+    type Error = ();
 
-// A lane to be written is too short.
-pub const LANE_TOO_SHORT: u8 = 6;
+    ghost try_from_gives = { λ number result. MatchResult result (λ refusal. number ≡ number_of refusal) (λ _. (refusal : Refusal) → number ≢ number_of refusal) };
 
-// Stream ends inside an item.
-pub const CUT_ITEM: u8 = 7;
+    fn try_from(number: u8) -> Result<Refusal, ()> {
+        match number {
+            1 => Ok(Refusal::LanesDiffer),
+            2 => Ok(Refusal::TooMany),
+            3 => Ok(Refusal::OutOfRange),
+            4 => Ok(Refusal::NoSecond),
+            5 => Ok(Refusal::PlanOutOfRange),
+            6 => Ok(Refusal::LaneTooShort),
+            7 => Ok(Refusal::CutItem),
+            8 => Ok(Refusal::UnknownKind),
+            9 => Ok(Refusal::MassInput),
+            10 => Ok(Refusal::MassTooLarge),
+            11 => Ok(Refusal::PlanMisplaced),
+            12 => Ok(Refusal::TooFewValues),
+            13 => Ok(Refusal::StateNotReached),
+            _ => Err(()),
+        }
+    }
+}
 
-// Unknown kind.
-pub const UNKNOWN_KIND: u8 = 8;
+// Why input is refused, and where: the index of the first bad second or value for an out-of-range one,
+// the byte offset of the first bad item of a stream, else 0.
+#[derive(Clone, Copy, PartialEq, Eq)]
+pub struct Refused {
+    pub refusal: Refusal,
+    pub place: usize,
+}
 
-// A mass input not finite or out of range.
-pub const MASS_INPUT: u8 = 9;
+// Most refusals have no place of their own.
+impl From<Refusal> for Refused {
+    ghost from_gives = { λ refusal refused. fault_of refused ≡ fault (number_of refusal) 0 };
 
-// The whole-part mass above the second's range.
-pub const MASS_TOO_LARGE: u8 = 10;
-
-// Plan absent, late or repeated.
-pub const PLAN_MISPLACED: u8 = 11;
-
-// Percentile asked of fewer than 100 values.
-pub const TOO_FEW_VALUES: u8 = 12;
-
-// Sweep state that these kept seconds and this reference never reach.
-pub const STATE_NOT_REACHED: u8 = 13;
+    fn from(refusal: Refusal) -> Refused {
+        Refused {
+            refusal: refusal,
+            place: 0,
+        }
+    }
+}

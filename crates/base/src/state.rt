@@ -1,4 +1,5 @@
 // The states of a second.
+// Kept: the C interface: a lane holds any byte in the place of a state, so states are bytes here.
 
 // All its values were measured.
 pub const MEASURED: u8 = 1;

@@ -1,13 +1,10 @@
 -- Tallies and dynamics put together are the bins of the trip. Assumes nothing.
-use Prim.Native.Nat.{ℕ, ◌^◌, ◌<◌, ◌≤◌}
+use Prim.Native.Nat.{ℕ}
 use mathlib.Core.Path.{◌≡◌, refl}
 use mathlib.Core.List.{List}
-use lib.ListN.{length, get_or}
-use Rattle.base.specs.Limits.{trip_limit}
 use Rattle.base.specs.Roads.{of_each}
-use Rattle.tally.specs.Inside.{Room, bin_tallies, bin_tallies_after, added}
-use Rattle.tally.specs.Sets.{is_present}
-use Rattle.tally.proofs.Tallies.{bins_add_up, tally_room}
+use Rattle.tally.specs.Inside.{bin_tallies, bin_tallies_after, added}
+use Rattle.tally.proofs.Tallies.{bins_add_up}
 use Rattle.acceleration.specs.Products.{products_of}
 use Rattle.dynamics.specs.Dynamics.{dynamics_of}
 use Rattle.bins.specs.Bins.{bin_of, bins_of}
@@ -21,9 +18,3 @@ module _ (states speeds co2 nox : List ℕ) where
   pub totals : added (bin_tallies states speeds co2 nox) ≡ (bins_of states speeds co2 nox).total
   unfolding bins_of
   totals = bins_add_up states speeds co2 nox
-
-  -- the totals fit, whatever the lanes hold
-  pub totals_fit : ((k : ℕ) → get_or speeds k 0 < 2 ^ 16) → ((k : ℕ) → get_or co2 k 0 < 2 ^ 32) → ((k : ℕ) → get_or nox k 0 < 2 ^ 32) → length states ≤ trip_limit → Room (added (bin_tallies states speeds co2 nox))
-  totals_fit small_speeds small_co2 small_nox few =
-      rw (bins_add_up states speeds co2 nox)
-      (tally_room states speeds co2 nox small_speeds small_co2 small_nox (is_present states) (length states) few)

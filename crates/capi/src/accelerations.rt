@@ -8,6 +8,7 @@ ghost use Rattle.crossing.specs.Accelerations.{acceleration_across, percentile_a
 
 use crossing::accelerations;
 use crossing::accelerations::{AccelerationAnswer, PercentileAnswer};
+use second::Trip;
 
 // D of second `index`, from 0, of a trip's lanes.
 pub fn pb_acceleration(
@@ -21,7 +22,14 @@ pub fn pb_acceleration(
     ensures { let trip = lanes_of states.now speeds.now altitudes.now co2.now nox.now in
         result ≡ acceleration_across (acceleration_of trip index) }
 {
-    accelerations::acceleration(states, speeds, altitudes, co2, nox, index)
+    let trip = Trip {
+        states,
+        speeds,
+        altitudes,
+        co2,
+        nox,
+    };
+    accelerations::acceleration(&trip, index)
 }
 
 // Q of products in any order, which are ranked into the lane.

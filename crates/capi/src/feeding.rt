@@ -6,6 +6,7 @@ ghost use Rattle.reader.specs.Reader.{started};
 ghost use Rattle.reader.specs.Blocks.{fed_of, lanes_fed, end_of};
 
 use reader::{Fed, Reader};
+use second::LentLanes;
 use stream::ReadAnswer;
 
 // The reader before the first block.
@@ -30,7 +31,14 @@ pub fn pb_feed(
         (result ≡ fed_of (room_in lanes) reader block.now)
         × (left ≡ lanes_fed reader block.now lanes) }
 {
-    blocks::feed(reader, block, states, speeds, altitudes, co2, nox)
+    let mut lanes = LentLanes {
+        states,
+        speeds,
+        altitudes,
+        co2,
+        nox,
+    };
+    blocks::feed(reader, block, &mut lanes)
 }
 
 // The answer at the end of the stream.

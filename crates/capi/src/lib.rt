@@ -3,6 +3,7 @@
 // trips. Each function takes and gives plain numbers, structs by value and lent lanes, and answers
 // as the call of the library that it stands for; the number of refusal, the place and the results
 // cross in one struct. The crate `capi_c` exports each under its name.
+// Kept: the C interface: each lane crosses by itself, as a pointer and a length; a kind, a refusal and a mask as numbers.
 #![tactic(auto)]
 
 pub mod accelerations;

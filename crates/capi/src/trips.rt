@@ -6,7 +6,8 @@ ghost use Rattle.trip.specs.Trip.{answer_of};
 ghost use Rattle.trip.specs.Lent.{lent_of, rooms_in, lent_left};
 
 use base::Plan;
-use trip::Evaluated;
+use second::Trip;
+use trip::{Evaluated, Workspace};
 
 // Evaluates a trip from its plan and its five lanes; the four lent lanes need a place per second.
 pub fn pb_evaluate(
@@ -27,16 +28,18 @@ pub fn pb_evaluate(
         (result ≡ answer_of plan trip (rooms_in lent))
         × (left ≡ lent_left plan trip lent) }
 {
-    trip::evaluate(
-        plan,
+    let trip = Trip {
         states,
         speeds,
         altitudes,
         co2,
         nox,
+    };
+    let mut work = Workspace {
         kept_speeds,
         kept_co2,
         ends,
         ranks,
-    )
+    };
+    trip::evaluate(plan, &trip, &mut work)
 }

@@ -9,26 +9,26 @@ use borrow.Author.Tests.{ltb-true, ltb-false, lt-ltb}
 use lib.Dec.{ltb}
 use lib.IntN.{ℤ, pos, ◌-ℤ◌}
 use lib.ListN.{length, get_or, get_or-eq_default}
-use Rattle.base.specs.Second.{altitude_in_range}
+use Rattle.std.proofs.Common.{Some, None}
 use Rattle.base.specs.Words.{pick, how_many}
 use Rattle.base.proofs.Choice.{both_ways}
 use Rattle.base.proofs.Seconds.{after_none, after_more, after_keeps}
 use Rattle.base.proofs.SumOver.{sum_over_none, sum_over_more}
 use Rattle.second.specs.Row.{has_values}
-use Rattle.climb.specs.Corrected.{Altitude, none, cm, recorded_at, recorded_before, jumps, corrected, corrected_after, is_high, high_after}
-use Rattle.climb.specs.Inside.{AltitudeLanes}
+use Rattle.climb.specs.Corrected.{Altitude, recorded_at, recorded_before, jumps, corrected, corrected_after, is_high, high_after}
+use Rattle.climb.specs.Inside.{Within, AltitudeLanes}
 
 module _ (states : List ℕ) (altitudes : List ℤ) where
   -- a second with values has its altitude, a missing one none
-  pub recorded_some : (i : ℕ) → has_values (get_or states i 0) ≡ true → recorded_at states altitudes i ≡ cm (get_or altitudes i (pos 0))
+  pub recorded_some : (i : ℕ) → has_values (get_or states i 0) ≡ true → recorded_at states altitudes i ≡ Some (get_or altitudes i (pos 0))
   unfolding recorded_at
   recorded_some i has = rw has refl
 
-  pub recorded_none : (i : ℕ) → has_values (get_or states i 0) ≡ false → recorded_at states altitudes i ≡ none
+  pub recorded_none : (i : ℕ) → has_values (get_or states i 0) ≡ false → recorded_at states altitudes i ≡ None
   unfolding recorded_at
   recorded_none i lacks = rw lacks refl
 
-  pub before_none : recorded_before states altitudes 0 ≡ none
+  pub before_none : recorded_before states altitudes 0 ≡ None
   unfolding recorded_before
   before_none = refl
 
@@ -37,7 +37,7 @@ module _ (states : List ℕ) (altitudes : List ℤ) where
   before_more i = rw add-one
 
 module _ (states speeds : List ℕ) (altitudes : List ℤ) where
-  pub corrected_none : corrected_after states speeds altitudes 0 ≡ none
+  pub corrected_none : corrected_after states speeds altitudes 0 ≡ None
   unfolding corrected_after
   corrected_none = after_none _ _
 
@@ -59,11 +59,6 @@ module _ (states speeds : List ℕ) (altitudes : List ℤ) where
       rw (sum_over_more (high_after states speeds altitudes) (λ i. 1) i, add-one) (or_one (how_many (high_after states speeds altitudes) i) (high_after states speeds altitudes i))
 
 -- ---- the range
--- an altitude is in range, where there is one
-abbrev pub Within : Altitude → Type 0
-Within none = Unit {0}
-Within (cm z) = altitude_in_range z ≡ true
-
 module _ (states speeds : List ℕ) (altitudes : List ℤ) (lanes : AltitudeLanes states altitudes) where
   has_second : (i : ℕ) → has_values (get_or states i 0) ≡ true → i < length states
   unfolding has_values
@@ -82,9 +77,9 @@ module _ (states speeds : List ℕ) (altitudes : List ℤ) (lanes : AltitudeLane
 
   corrected_keeps : (previous before recorded : Altitude) (s : ℕ) → Within previous → Within recorded → Within (corrected previous before recorded s)
   unfolding corrected
-  corrected_keeps previous before none s p r = p
-  corrected_keeps previous none (cm z) s p r = r
-  corrected_keeps previous (cm y) (cm z) s p r = both_ways Within (jumps (z -ℤ y) s) p r
+  corrected_keeps previous before None s p r = p
+  corrected_keeps previous None (Some z) s p r = r
+  corrected_keeps previous (Some y) (Some z) s p r = both_ways Within (jumps (z -ℤ y) s) p r
 
   pub corrected_within : (i : ℕ) → Within (corrected_after states speeds altitudes i)
   unfolding corrected_after

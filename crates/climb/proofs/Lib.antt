@@ -1,5 +1,4 @@
 -- The laws of altitudes, of the climb, and of the first and last altitude.
-pub mod Codes
 pub mod Altitudes
 pub mod Steps
 pub mod Ends

@@ -1,8 +1,8 @@
 -- The climb of a trip (Appendix 7b, first edition).
-use Rattle.std.specs.Prelude.{ℕ, suc, ◌+◌, ◌*◌, Bool, List, leb, ltb, ℤ, pos, negsuc, ◌-ℤ◌, length}
+use Rattle.std.specs.Prelude.{ℕ, suc, ◌+◌, ◌*◌, Bool, Some, None, List, leb, ltb, ℤ, pos, negsuc, ◌-ℤ◌, length}
 use Rattle.base.specs.Words.{after_first, how_many}
 use Rattle.climb.specs.declared.Climbed.{Climbed}
-use Rattle.climb.specs.Corrected.{Altitude, none, cm, corrected_after, high_after}
+use Rattle.climb.specs.Corrected.{Altitude, corrected_after, high_after}
 
 -- a difference where it is upward, and 0 where it is downward
 unfoldable pub upward : ℤ → ℕ
@@ -11,9 +11,9 @@ upward (negsuc difference) = 0
 
 -- the upward step from one corrected altitude to the next; where there is none, no step
 unfoldable pub step_up : Altitude → Altitude → ℕ
-step_up none to = 0
-step_up (cm from) none = 0
-step_up (cm from) (cm to) = upward (to -ℤ from)
+step_up None to = 0
+step_up (Some from) None = 0
+step_up (Some from) (Some to) = upward (to -ℤ from)
 
 -- "Climb is the sum of upward steps between successive corrected altitudes", in cm
 unfoldable pub climb_after : List ℕ → List ℕ → List ℤ → ℕ → ℕ

@@ -1,26 +1,21 @@
--- The codes by which the code holds altitudes, and what the steps inside may take for granted.
-use Rattle.std.specs.Prelude.{ℕ, ◌+◌, ◌*◌, ◌≤◌, ◌<◌, ◌≡◌, true, List, eqb, ℤ, pos, length, get_or}
-use Rattle.std.proofs.Math.IntN.{sub_ℕ}
+-- What the steps inside may take for granted.
+use Rattle.std.specs.Prelude.{ℕ, ◌+◌, ◌*◌, ◌≤◌, ◌<◌, ◌≡◌, true, IfSome, List, ℤ, pos, length, get_or}
 use Rattle.base.specs.Limits.{trip_limit, altitude_below_zero, altitude_most}
 use Rattle.base.specs.Second.{altitude_in_range}
-use Rattle.base.specs.Words.{pick}
 use Rattle.second.specs.Row.{has_values}
-use Rattle.climb.specs.Corrected.{Altitude, none, cm}
+use Rattle.climb.specs.Corrected.{Altitude}
 
--- the code of altitude 0, and the largest code
-abbrev pub sea_level : ℕ
-sea_level = altitude_below_zero + 1
+-- an altitude is in range, where there is one
+abbrev pub Within : Altitude → Type 0
+Within altitude = IfSome altitude (λ z. altitude_in_range z ≡ true)
 
-abbrev pub code_most : ℕ
-code_most = sea_level + altitude_most
-
--- the altitude that a code stands for: cm from 1 at the lowest altitude up; 0 says that there is none
-unfoldable pub altitude_of : ℕ → Altitude
-altitude_of code = pick (eqb code 0) none (cm (sub_ℕ code sea_level))
+-- more than any two altitudes in range differ by
+abbrev pub step_most : ℕ
+step_most = altitude_below_zero + 1 + altitude_most
 
 -- no trip climbs more
 abbrev pub climb_most : ℕ
-climb_most = trip_limit * code_most
+climb_most = trip_limit * step_most
 
 -- states and altitudes of one length, every altitude in its range
 pub record AltitudeLanes (states : List ℕ) (altitudes : List ℤ) : Type 0 where

@@ -6,23 +6,20 @@ use mathlib.Core.Logic.{◌↔◌}
 use lib.Dec.{leb}
 use lib.Ieee.{Float}
 use lib.IntN.{ℤ, pos, negsuc, ◌-ℤ◌, +ℤ_idl, +ℤ_idr}
-use borrow.Author.Tests.{leb-true, leb-false}
-use Rattle.base.specs.Refusal.{fault}
+use borrow.Author.Tests.{leb-true, leb-false, ne_eqb}
+use Rattle.std.specs.Prelude.{Option, Some, None, Result, Ok, Err}
+use Rattle.base.specs.declared.refusal.Refusal.{Refusal}
+use Rattle.base.specs.declared.refusal.Refusal.TheVariants.{MassInput}
+use Rattle.base.specs.Refusal.{Fault, fault, number_of}
 use Rattle.base.specs.Words.{pick}
 use Rattle.second.specs.Lanes.{Lanes}
 use Rattle.mass.specs.declared.Setting.{Setting}
-use Rattle.mass.specs.declared.Weighed.{Weighed}
-use Rattle.mass.specs.declared.Weighed.TheVariants.{Mass, BadInput, TooLarge}
 use Rattle.mass.specs.Mass.{mass_answer}
 use Rattle.mass.specs.Outcomes as mass
 use Rattle.mass.proofs.Theorems as masses
-use Rattle.item.specs.declared.Front.{Front}
 use Rattle.item.specs.Item as items
-use Rattle.acceleration.specs.declared.Acceleration.{Acceleration}
-use Rattle.acceleration.specs.declared.Acceleration.TheVariants.{Rising, Falling, None, Refused}
 use Rattle.acceleration.specs.D as d
 use Rattle.acceleration.proofs.Theorems as accelerations
-use Rattle.percentile.specs.declared.Answer.{Answer}
 use Rattle.percentile.specs.Percentile as percentiles
 use Rattle.crossing.specs.Concentration.{reading_of, mass_across, answer_of}
 use Rattle.crossing.specs.Items.{no_contents, contents_at, item_answer, front_across}
@@ -32,7 +29,7 @@ use Rattle.crossing.proofs.Readings.{if_unknown_kind, known_kind}
 
 -- ---- the mass calls
 module _ (scale : Float) (limit kind : ℕ) (value : Float) (s : Setting) where
-  abbrev across : Weighed
+  abbrev across : Result ℕ Refusal
   across = mass_across (mass_answer scale limit) kind value s
 
   -- one of them holds, with the number that is given
@@ -40,17 +37,17 @@ module _ (scale : Float) (limit kind : ℕ) (value : Float) (s : Setting) where
   unfolding mass_across answer_of
   outcome = go (leb kind 3) refl
     where
-      of_kind : {w : Weighed} → kind ≤ 3 → mass.Outcome scale limit (reading_of kind value) s w → Outcome scale limit kind value s (answer_of w).refusal
+      of_kind : {w : Result ℕ Refusal} → kind ≤ 3 → mass.Outcome scale limit (reading_of kind value) s w → Outcome scale limit kind value s (answer_of w).refusal
       of_kind known (mass.bad_input p) = bad_input known p
       of_kind known (mass.too_large p l) = too_large known p l
       of_kind known (mass.fine p l) = fine known p l
 
-      go : (t : Bool) → leb kind 3 ≡ t → Outcome scale limit kind value s (answer_of (pick t (mass_answer scale limit (reading_of kind value) s) BadInput)).refusal
+      go : (t : Bool) → leb kind 3 ≡ t → Outcome scale limit kind value s (answer_of (pick t (mass_answer scale limit (reading_of kind value) s) (Err MassInput))).refusal
       go true e = of_kind (leb-true kind 3 e) (masses.outcome scale limit (reading_of kind value) s)
       go false e = no_kind (leb-false kind 3 e)
 
   -- a reading of a kind is answered as its outcome says
-  answered : {w : Weighed} → kind ≤ 3 → mass.Outcome scale limit (reading_of kind value) s w → (answer_of across).refusal ≡ (answer_of w).refusal
+  answered : {w : Result ℕ Refusal} → kind ≤ 3 → mass.Outcome scale limit (reading_of kind value) s w → (answer_of across).refusal ≡ (answer_of w).refusal
   answered known o = λ i. (answer_of ((known_kind (mass_answer scale limit) kind value s known ∙ masses.only scale limit (reading_of kind value) s o) i)).refusal
 
   -- and no other: each is given whenever what it says holds
@@ -65,52 +62,46 @@ module _ (scale : Float) (limit kind : ℕ) (value : Float) (s : Setting) where
   mass_exactly number = (λ e. rw e at outcome, only)
 
 -- ---- "with all other results zero"
-pub mass_zeros : (w : Weighed) → ((answer_of w).refusal ≡ 0 → ⊥) → answer_of w ≡ record { refusal = (answer_of w).refusal; mass = 0; place = 0 }
+pub mass_zeros : (w : Result ℕ Refusal) → ((answer_of w).refusal ≡ 0 → ⊥) → answer_of w ≡ record { refusal = (answer_of w).refusal; mass = 0; place = 0 }
 unfolding answer_of
-mass_zeros (Mass m) refused = absurd (refused refl)
-mass_zeros BadInput refused = refl
-mass_zeros TooLarge refused = refl
+mass_zeros (Ok m) refused = absurd (refused refl)
+mass_zeros (Err refusal) refused = refl
 
-pub item_zeros : (byte : ℕ) (front : Front) → (items.refusal_of front ≡ 0 → ⊥) → front_across byte front ≡ item_answer (items.refusal_of front) 0 no_contents 0 0
+pub item_zeros : (byte : ℕ) (front : items.Front) → (items.refusal_of front ≡ 0 → ⊥) → front_across byte front ≡ item_answer (items.refusal_of front) 0 no_contents 0 0
 unfolding front_across contents_at items.refusal_of items.length_of items.place_of
-item_zeros byte (Front.Whole item size) refused = absurd (refused refl)
-item_zeros byte Front.UnknownKind refused = refl
-item_zeros byte Front.Cut refused = refl
-item_zeros byte Front.PlanOutOfRange refused = refl
-item_zeros byte Front.OutOfRange refused = refl
+item_zeros byte (Ok (item, size)) refused = absurd (refused refl)
+item_zeros byte (Err refusal) refused = rw (ne_eqb (number_of refusal) 0 refused) refl
 
-pub acceleration_zeros : (found : Acceleration) → ((d.fault_in found).number ≡ 0 → ⊥) → acceleration_across found ≡ record { refusal = (d.fault_in found).number; has_d = false; rise = 0; fall = 0; place = (d.fault_in found).place }
+pub acceleration_zeros : (found : Result (Option ℤ) Fault) → ((d.fault_in found).number ≡ 0 → ⊥) → acceleration_across found ≡ record { refusal = (d.fault_in found).number; has_d = false; rise = 0; fall = 0; place = (d.fault_in found).place }
 unfolding acceleration_across d.fault_in
-acceleration_zeros (Rising n) refused = absurd (refused refl)
-acceleration_zeros (Falling n) refused = absurd (refused refl)
-acceleration_zeros None refused = absurd (refused refl)
-acceleration_zeros (Refused fault) refused = refl
+acceleration_zeros (Ok found) refused = absurd (refused refl)
+acceleration_zeros (Err fault) refused = refl
 
-pub percentile_zeros : (found : Answer) → ((percentiles.fault_in found).number ≡ 0 → ⊥) → percentile_across found ≡ record { refusal = (percentiles.fault_in found).number; q = 0; place = (percentiles.fault_in found).place }
+pub percentile_zeros : (found : Result ℕ Fault) → ((percentiles.fault_in found).number ≡ 0 → ⊥) → percentile_across found ≡ record { refusal = (percentiles.fault_in found).number; q = 0; place = (percentiles.fault_in found).place }
 unfolding percentile_across percentiles.fault_in
-percentile_zeros (Answer.Q q) refused = absurd (refused refl)
-percentile_zeros (Answer.Refused fault) refused = refl
+percentile_zeros (Ok q) refused = absurd (refused refl)
+percentile_zeros (Err fault) refused = refl
 
 -- ---- the refusals
-pub acceleration_fault : (found : Acceleration) → fault (acceleration_across found).refusal (acceleration_across found).place ≡ d.fault_in found
+pub acceleration_fault : (found : Result (Option ℤ) Fault) → fault (acceleration_across found).refusal (acceleration_across found).place ≡ d.fault_in found
 unfolding acceleration_across d.fault_in
-acceleration_fault (Rising n) = refl
-acceleration_fault (Falling n) = refl
-acceleration_fault None = refl
-acceleration_fault (Refused given) = refl
+acceleration_fault (Ok None) = refl
+acceleration_fault (Ok (Some (pos n))) = refl
+acceleration_fault (Ok (Some (negsuc n))) = refl
+acceleration_fault (Err given) = refl
 
-pub percentile_fault : (found : Answer) → fault (percentile_across found).refusal (percentile_across found).place ≡ percentiles.fault_in found
+pub percentile_fault : (found : Result ℕ Fault) → fault (percentile_across found).refusal (percentile_across found).place ≡ percentiles.fault_in found
 unfolding percentile_across percentiles.fault_in
-percentile_fault (Answer.Q q) = refl
-percentile_fault (Answer.Refused given) = refl
+percentile_fault (Ok q) = refl
+percentile_fault (Err given) = refl
 
 -- ---- D as it crosses: whether there is one, and its value, how far it rises less how far it falls
 module _ (trip : Lanes) (i : ℕ) (passed : (d.fault_of trip i).number ≡ 0) where
   pub d_crosses : (acceleration_across (d.acceleration_of trip i)).has_d ≡ d.has_d trip.states i
-  unfolding acceleration_across d.numbered
+  unfolding acceleration_across
   d_crosses = go (d.has_d trip.states i) refl
     where
-      number : (z : ℤ) → (acceleration_across (d.numbered z)).has_d ≡ true
+      number : (z : ℤ) → (acceleration_across (Ok (Some z))).has_d ≡ true
       number (pos n) = refl
       number (negsuc n) = refl
 
@@ -118,7 +109,7 @@ module _ (trip : Lanes) (i : ℕ) (passed : (d.fault_of trip i).number ≡ 0) wh
       go true e = rw (accelerations.accepted_has trip i passed e) (number (d.d_of trip.speeds i))
       go false e = rw (accelerations.accepted_none trip i passed e) refl
 
-pub rise_less_fall : (z : ℤ) → pos (acceleration_across (d.numbered z)).rise -ℤ pos (acceleration_across (d.numbered z)).fall ≡ z
-unfolding acceleration_across d.numbered
+pub rise_less_fall : (z : ℤ) → pos (acceleration_across (Ok (Some z))).rise -ℤ pos (acceleration_across (Ok (Some z))).fall ≡ z
+unfolding acceleration_across
 rise_less_fall (pos n) = +ℤ_idr (pos n)
 rise_less_fall (negsuc n) = +ℤ_idl (negsuc n)

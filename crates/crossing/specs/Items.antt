@@ -1,11 +1,10 @@
 -- One item crosses as one struct: the paper's number, length and place of what stands at the front of the bytes, its kind byte, and what the item holds.
-use Rattle.std.specs.Prelude.{ℕ, List, eqb, pos, get_or}
+use Rattle.std.specs.Prelude.{ℕ, List, eqb, pos, get_or, Ok, Err}
 use Rattle.base.specs.Refusal.{accepted}
 use Rattle.base.specs.Words.{pick}
 use Rattle.second.specs.declared.Row.{Row}
 use Rattle.item.specs.declared.Item.{Item}
-use Rattle.item.specs.declared.Front.{Front}
-use Rattle.item.specs.Item.{item_of, refusal_of, place_of, length_of}
+use Rattle.item.specs.Item.{Front, item_of, refusal_of, place_of, length_of}
 use Rattle.stream.specs.Items.{no_plan}
 use Rattle.crossing.specs.declared.items.Contents.{Contents}
 use Rattle.crossing.specs.declared.items.ItemAnswer.{ItemAnswer}
@@ -24,11 +23,8 @@ abbrev pub no_contents : Contents
 no_contents = record { row = no_row; plan = no_plan }
 
 unfoldable pub contents_at : Front → Contents
-contents_at (Front.Whole item size) = contents_of item
-contents_at Front.UnknownKind = no_contents
-contents_at Front.Cut = no_contents
-contents_at Front.PlanOutOfRange = no_contents
-contents_at Front.OutOfRange = no_contents
+contents_at (Ok (item, size)) = contents_of item
+contents_at (Err refusal) = no_contents
 
 -- the answer's struct
 abbrev pub item_answer : ℕ → ℕ → Contents → ℕ → ℕ → ItemAnswer

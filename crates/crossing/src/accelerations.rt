@@ -1,15 +1,16 @@
 // D of one second, and the percentile of products.
 
-ghost use Rattle.std.specs.Prelude.{◌≡◌, length};
-ghost use Rattle.second.specs.Lanes.{lanes_of};
+ghost use Rattle.std.specs.Prelude.{◌≡◌, ◌<◌, ◌^◌, length, nat_abs, Ok, Some};
+ghost use Rattle.second.specs.Inside.{lanes_in};
 ghost use Rattle.acceleration.specs.D.{acceleration_of};
 ghost use Rattle.percentile.specs.Percentile.{answer_of, lane_of};
 ghost use Rattle.crossing.specs.Accelerations.{acceleration_across, percentile_across};
 
-use acceleration::Acceleration;
-use percentile::Answer;
+use base::refusal::ACCEPTED;
+use second::Trip;
 
 // D of one second: a number, or none.
+// Kept: the C interface: a number of refusal and its place beside the rest, as C reads them.
 #[repr(C)]
 #[derive(Clone, Copy)]
 pub struct AccelerationAnswer {
@@ -21,51 +22,47 @@ pub struct AccelerationAnswer {
 }
 
 // D of second `index`, from 0, of a trip's lanes.
-pub fn acceleration(
-    states: &[u8],
-    speeds: &[u16],
-    altitudes: &[i32],
-    co2: &[u32],
-    nox: &[u32],
-    index: usize,
-) -> AccelerationAnswer
-    ensures { let trip = lanes_of states.now speeds.now altitudes.now co2.now nox.now in
-        result ≡ acceleration_across (acceleration_of trip index) }
+#[tactic(auto, unfolding(crate::specs::Accelerations::acceleration_across))]
+pub fn acceleration(trip: &Trip<'_>, index: usize) -> AccelerationAnswer
+    ensures { result ≡ acceleration_across (acceleration_of (lanes_in trip.now) index) }
 {
-    let found = acceleration::d_of_second(states, speeds, altitudes, co2, nox, index);
-    match found {
-        Acceleration::Rising(d) => AccelerationAnswer {
-            refusal: base::refusal::ACCEPTED,
-            has_d: true,
-            rise: d,
-            fall: 0,
-            place: 0,
-        },
-        Acceleration::Falling(d) => AccelerationAnswer {
-            refusal: base::refusal::ACCEPTED,
-            has_d: true,
-            rise: 0,
-            fall: d,
-            place: 0,
-        },
-        Acceleration::None => AccelerationAnswer {
-            refusal: base::refusal::ACCEPTED,
+    match acceleration::d_of_second(trip, index) {
+        Ok(Some(d)) => found(d),
+        Ok(None) => AccelerationAnswer {
+            refusal: ACCEPTED,
             has_d: false,
             rise: 0,
             fall: 0,
             place: 0,
         },
-        Acceleration::Refused(fault) => AccelerationAnswer {
-            refusal: fault.number,
+        Err(refused) => AccelerationAnswer {
+            refusal: u8::from(refused.refusal),
             has_d: false,
             rise: 0,
             fall: 0,
-            place: fault.place,
+            place: refused.place,
         },
     }
 }
 
+// D as how far it rises and how far it falls.
+#[tactic(auto, unfolding(crate::specs::Accelerations::acceleration_across))]
+fn found(d: i32) -> AccelerationAnswer
+    requires { nat_abs d < 2 ^ 16 }
+    ensures { result ≡ acceleration_across (Ok (Some d)) }
+{
+    let size = d.unsigned_abs() as u16;
+    AccelerationAnswer {
+        refusal: ACCEPTED,
+        has_d: true,
+        rise: if 0 <= d { size } else { 0 },
+        fall: if 0 <= d { 0 } else { size },
+        place: 0,
+    }
+}
+
 // Q of products.
+// Kept: the C interface: a number of refusal and its place beside the rest, as C reads them.
 #[repr(C)]
 #[derive(Clone, Copy)]
 pub struct PercentileAnswer {
@@ -75,20 +72,20 @@ pub struct PercentileAnswer {
 }
 
 // Q of products in any order, which are ranked into the lane.
+#[tactic(auto, unfolding(crate::specs::Accelerations::percentile_across))]
 pub fn percentile(products: &[u32], ranks: &mut [u32]) -> PercentileAnswer
     ensures { (result ≡ percentile_across (answer_of products.now (length ranks.old))) × (ranks.new ≡ lane_of products.now ranks.old) }
 {
-    let found = percentile::percentile(products, ranks);
-    match found {
-        Answer::Q(q) => PercentileAnswer {
-            refusal: base::refusal::ACCEPTED,
-            q: q,
+    match percentile::percentile(products, ranks) {
+        Ok(q) => PercentileAnswer {
+            refusal: ACCEPTED,
+            q,
             place: 0,
         },
-        Answer::Refused(fault) => PercentileAnswer {
-            refusal: fault.number,
+        Err(refused) => PercentileAnswer {
+            refusal: u8::from(refused.refusal),
             q: 0,
-            place: fault.place,
+            place: refused.place,
         },
     }
 }

@@ -3,11 +3,14 @@
 ghost use Rattle.std.specs.Prelude.{◌≡◌};
 ghost use Rattle.crossing.specs.Items.{contents_of, item_answer, item_across};
 
-use base::{Plan, refusal};
-use item::{Front, Item};
+use base::Plan;
+use base::refusal::ACCEPTED;
+use item::Item;
 use second::Row;
+use stream::NO_PLAN;
 
 // One item. Only the members of its kind are set.
+// Kept: the C interface: a number of refusal and its place beside the rest, as C reads them.
 #[repr(C)]
 #[derive(Clone, Copy)]
 pub struct ItemAnswer {
@@ -23,16 +26,13 @@ pub struct ItemAnswer {
 }
 
 // One item from the front of some bytes.
+#[tactic(auto, unfolding(crate::specs::Items::front_across, crate::specs::Items::contents_at))]
 pub fn item(bytes: &[u8]) -> ItemAnswer
     ensures { result ≡ item_across bytes.now }
 {
-    let front = item::read_item(bytes);
-    match front {
-        Front::Whole { item, size } => answer(refusal::ACCEPTED, bytes[0], contents_of(item), size),
-        Front::UnknownKind => answer(refusal::UNKNOWN_KIND, 0, NO_CONTENTS, 0),
-        Front::Cut => answer(refusal::CUT_ITEM, 0, NO_CONTENTS, 0),
-        Front::PlanOutOfRange => answer(refusal::PLAN_OUT_OF_RANGE, 0, NO_CONTENTS, 0),
-        Front::OutOfRange => answer(refusal::OUT_OF_RANGE, 0, NO_CONTENTS, 0),
+    match item::read_item(bytes) {
+        Ok((item, size)) => answer(ACCEPTED, bytes[0], contents_of(item), size),
+        Err(refusal) => answer(u8::from(refusal), 0, NO_CONTENTS, 0),
     }
 }
 
@@ -51,54 +51,38 @@ const NO_ROW: Row = Row {
     nox: 0,
 };
 
-const NO_PLAN: Plan = Plan {
-    reference: 0,
-    e1: 0,
-    e2: 0,
-    e3: 0,
-    lower: 0,
-    urban: 0,
-    rural: 0,
-    motorway: 0,
-};
-
 const NO_CONTENTS: Contents = Contents {
     row: NO_ROW,
     plan: NO_PLAN,
 };
 
 // The contents of an item.
+#[tactic(auto, unfolding(crate::specs::Items::contents_of))]
 fn contents_of(item: Item) -> Contents
     ensures { result ≡ contents_of item }
 {
     match item {
-        Item::Plan(plan) => Contents {
-            row: NO_ROW,
-            plan: plan,
-        },
-        Item::Second(row) => Contents {
-            row: row,
-            plan: NO_PLAN,
-        },
+        Item::Plan(plan) => Contents { row: NO_ROW, plan },
+        Item::Second(row) => Contents { row, plan: NO_PLAN },
     }
 }
 
 // The answer as it crosses.
+// Kept: the C interface: the number of refusal and the kind are what crosses.
 fn answer(refusal: u8, kind: u8, contents: Contents, length: usize) -> ItemAnswer
     ensures { result ≡ item_answer refusal kind contents length 0 }
 {
-    let row = contents.row;
+    let Contents { row, plan } = contents;
     let altitude = row.altitude;
-    let plan = contents.plan;
     ItemAnswer {
-        refusal: refusal,
-        kind: kind,
+        refusal,
+        kind,
         speed: row.speed,
-        altitude: altitude,
+        altitude,
         co2: row.co2,
         nox: row.nox,
-        plan: plan,
-        length: length,
+        plan,
+        length,
         place: 0,
     }
 }

@@ -2,14 +2,17 @@
 // percentile.
 #![tactic(auto)]
 
-ghost use Rattle.std.specs.Prelude.{◌≡◌, ◌+◌, ◌≤◌, length};
-ghost use Rattle.base.specs.Roads.{of_each};
+ghost use Rattle.std.specs.Prelude.{◌≡◌, ◌≤◌, length};
+ghost use Rattle.base.specs.Roads.{of_each, road_number};
 ghost use Rattle.base.specs.Words.{with_front};
 ghost use Rattle.order.specs.Sort.{sort};
 ghost use Rattle.acceleration.specs.Inside.{SpeedLanes};
 ghost use Rattle.acceleration.specs.Products.{products_of};
 ghost use Rattle.dynamics.specs.Dynamics.{dynamics_of, ranks_of};
-ghost use Rattle.dynamics.specs.Inside.{DynamicsLanes, placed};
+ghost use Rattle.dynamics.specs.Inside.{DynamicsLanes};
+
+use base::Road;
+use second::Trip;
 
 // What the dynamics of a bin come to.
 #[derive(Clone, Copy)]
@@ -21,50 +24,34 @@ pub struct Figures {
 
 // The dynamics of the three bins. The lane afterwards holds the urban, the rural and the motorway
 // products, each ascending, and the rest of it is as it was.
-pub fn dynamics(states: &[u8], speeds: &[u16], ranks: &mut [u32]) -> [Figures; 3]
-    requires { DynamicsLanes states.now speeds.now ranks.old }
-    ensures { let states = states.now in
-        let speeds = speeds.now in
+pub fn dynamics(trip: &Trip<'_>, ranks: &mut [u32]) -> [Figures; 3]
+    requires { DynamicsLanes trip.now.states.now trip.now.speeds.now ranks.old }
+    ensures { let states = trip.now.states.now in
+        let speeds = trip.now.speeds.now in
         (result ≡ of_each (λ bin. dynamics_of (products_of bin states speeds)))
         × (ranks.new ≡ ranks_of states speeds ranks.old) }
 {
-    let urban = dynamics_from(states, speeds, base::road::URBAN, ranks, 0);
+    let urban = bin_dynamics(trip, Road::Urban, ranks);
     let first = urban.m as usize;
-    let rural = dynamics_from(states, speeds, base::road::RURAL, ranks, first);
+    let rural = bin_dynamics(trip, Road::Rural, &mut ranks[first..]);
     let both = first + rural.m as usize;
-    let motorway = dynamics_from(states, speeds, base::road::MOTORWAY, ranks, both);
+    let motorway = bin_dynamics(trip, Road::Motorway, &mut ranks[both..]);
     [urban, rural, motorway]
 }
 
-// The dynamics of a bin, whose products are ranked in the lane from a place on.
-fn dynamics_from(
-    states: &[u8],
-    speeds: &[u16],
-    bin: usize,
-    lane: &mut [u32],
-    from: usize,
-) -> Figures
-    requires speed_lanes { SpeedLanes states.now speeds.now }
-    requires room { from + length (products_of bin states.now speeds.now) ≤ length lane.old }
-    ensures { let products = products_of bin states.now speeds.now in
-        (result ≡ dynamics_of products)
-        × (lane.new ≡ placed from (sort products) lane.old) }
-{
-    bin_dynamics(states, speeds, bin, &mut lane[from..])
-}
-
 // The dynamics of a bin, whose products are ranked at the front of the lane.
-fn bin_dynamics(states: &[u8], speeds: &[u16], bin: usize, lane: &mut [u32]) -> Figures
-    requires speed_lanes { SpeedLanes states.now speeds.now }
-    requires room { length (products_of bin states.now speeds.now) ≤ length lane.old }
-    ensures { let products = products_of bin states.now speeds.now in
+fn bin_dynamics(trip: &Trip<'_>, bin: Road, lane: &mut [u32]) -> Figures
+    requires speed_lanes { SpeedLanes trip.now.states.now trip.now.speeds.now }
+    requires room { length (products_of (road_number bin) trip.now.states.now trip.now.speeds.now) ≤ length lane.old }
+    ensures { let products = products_of (road_number bin) trip.now.states.now trip.now.speeds.now in
         (result ≡ dynamics_of products)
         × (lane.new ≡ with_front (sort products) lane.old) }
 {
-    let products = acceleration::write_products(states, speeds, bin, lane);
-    let count = products.count;
-    let total = products.total;
-    let q = percentile::rank_first(lane, count);
-    let m = count as u32;
-    Figures { m, t: total, q }
+    let products = acceleration::write_products(trip, bin.index(), lane);
+    let q = percentile::rank_first(lane, products.count);
+    Figures {
+        m: products.count as u32,
+        t: products.total,
+        q,
+    }
 }

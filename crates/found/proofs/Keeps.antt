@@ -1,13 +1,13 @@
 -- The kept lanes of a trip that can be searched can be swept, and judged once they are. Assumes nothing.
-use Prim.Native.Nat.{ℕ, ◌≤◌}
-use mathlib.Core.Path.{◌≡◌, refl, sym}
+use Prim.Native.Nat.{ℕ, ◌≤◌, ◌<◌}
+use mathlib.Core.Path.{◌≡◌, refl, sym, ◌∙◌}
 use mathlib.Core.Bool.{and-eq-true_iff}
 use mathlib.Core.List.{List}
 use native.Mathlib.Omega.{arith}
 use borrow.Author.Tests.{le-leb, leb-true}
 use lib.Dec.{leb, eqb}
-use lib.ListN.{length, get_or, take, length-append}
-use lib.Seq.{take_at}
+use lib.ListN.{length, get_or, take, length-append, length-take}
+use lib.Seq.{take_at, get_or-take}
 use Rattle.base.specs.declared.Plan.{Plan}
 use Rattle.base.specs.Limits.{speed_most, co2_most, reference_most}
 use Rattle.base.specs.Second.{measured}
@@ -61,20 +61,21 @@ module _ {plan : Plan} {speeds co2 : List ℕ} {room : ℕ} (kept : Kept plan sp
   pub windows_few : windows plan.reference co2 ≤ length co2
   windows_few = windows_most plan.reference co2
 
-  -- once they are swept the windows can be judged
-  pub swept : (before after : List ℕ) (count : ℕ) → room ≡ length before → after ≡ ends_after plan.reference co2 (moves_to_end plan.reference co2) beginning before → count ≡ windows plan.reference co2 → SweptLanes plan speeds co2 after count
+  -- once they are swept the windows can be judged, whose ends are the front of the lane
+  pub swept : (before after : List ℕ) (count : ℕ) → room ≡ length before → after ≡ ends_after plan.reference co2 (moves_to_end plan.reference co2) beginning before → count ≡ windows plan.reference co2 → SweptLanes plan speeds co2 (take count after)
   swept before after count same is counted =
       let positive = (plan_ranges plan kept.plan_is_in_range).reference_least in
       let places : length co2 ≤ length before = omega (arith, kept.places) in
       let w = written plan.reference co2 positive (moves_to_end plan.reference co2) beginning before (begins plan.reference co2) places in
       let last = at_end plan.reference co2 room sweepable in
+      let few : count ≤ length after = rw is (omega (arith, counted, windows_few, w.same_length, places)) in
+      let long : length (take count after) ≡ count = rw length-take (omega arith) in
       record {
         plan_is_in_range = kept.plan_is_in_range;
         same_length = kept.same_length;
         each_moves = kept.each_moves;
         speeds_are_kept = record { few = omega (arith, kept.same_length, kept.few); each = kept.speeds_in_range };
         masses_fit = (refusals.measured co2 kept.few (omega (arith, none_out plan.reference co2 room sweepable))).light;
-        places = rw is (omega (arith, w.same_length, places));
-        all = counted;
-        ended = λ f h. rw is (w.ends f (omega arith) (omega (arith, h, counted, last.dropped)));
+        all = long ∙ counted;
+        ended = λ f (h : f < length (take count after)). let below : f < count = omega (arith, long) in rw (get_or-take count after f 0 below, is) (w.ends f (omega arith) (omega (arith, counted, last.dropped)));
       }

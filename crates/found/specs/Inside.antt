@@ -1,12 +1,9 @@
--- What the steps may take for granted, once the trip is accepted, and what one of them is by definition.
-use Rattle.std.specs.Prelude.{ℕ, ◌≤◌, ◌<◌, ◌≡◌, true, List, [], ◌∷◌, length, get_or}
+-- What the steps may take for granted, once the trip is accepted.
+use Rattle.std.specs.Prelude.{ℕ, ◌≤◌, ◌<◌, ◌≡◌, true, List, length, get_or}
 use Rattle.base.specs.declared.Plan.{Plan}
 use Rattle.base.specs.Limits.{trip_limit, speed_most, co2_most}
 use Rattle.base.specs.Plan.{reference_in_range, plan_in_range}
-use Rattle.base.specs.Roads.{urban, rural, motorway}
 use Rattle.kept.specs.Kept.{kept_speed_least, second_kept}
-use Rattle.windows.specs.declared.ClassCount.{ClassCount}
-use Rattle.windows.specs.Counts.{no_count}
 
 -- a trip whose windows can be found: lanes of one length, a place per second in each lane to be written, kept values in range
 pub record Findable (plan : Plan) (states speeds co2 : List ℕ) (speed_places co2_places end_places : ℕ) : Type 0 where
@@ -36,7 +33,3 @@ pub record Sweepable (reference : ℕ) (co2 : List ℕ) (room : ℕ) : Type 0 wh
   pub few : length co2 ≤ trip_limit
   pub places : length co2 ≤ room
   pub in_range : (i : ℕ) → i < length co2 → get_or co2 i 0 ≤ co2_most
-
--- the counts of the three classes, without that of the windows that have none
-unfoldable pub three_of : List ClassCount → List ClassCount
-three_of all = get_or all urban no_count ∷ get_or all rural no_count ∷ get_or all motorway no_count ∷ []

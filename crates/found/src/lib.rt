@@ -3,13 +3,15 @@
 
 ghost use Rattle.std.specs.Prelude.{◌≡◌, length};
 ghost use Rattle.base.specs.Words.{with_front};
+ghost use Rattle.second.specs.Inside.{lanes_in};
 ghost use Rattle.kept.specs.Kept.{kept_of};
 ghost use Rattle.sweep.specs.Sweep.{beginning, ends_after};
 ghost use Rattle.sweep.specs.Window as window;
 ghost use Rattle.found.specs.Found.{moves_to_end, found_in, ends_in};
-ghost use Rattle.found.specs.Inside.{Findable, Kept, Sweepable, three_of};
+ghost use Rattle.found.specs.Inside.{Findable, Kept, Sweepable};
 
 use base::Plan;
+use second::Trip;
 use sweep::SweepState;
 use windows::ClassCount;
 
@@ -24,25 +26,27 @@ pub struct Found {
 
 // Keeps the seconds of a trip, sweeps them to the end and counts the windows. Each lent lane needs
 // a place per second.
+// Kept: no plainer: the three lanes are part of trip's workspace, which stands above this crate.
+#[tactic(auto, using(crate::proofs::Keeps::front_long))]
 pub fn find(
     plan: Plan,
-    states: &[u8],
-    speeds: &[u16],
-    co2: &[u32],
+    trip: &Trip<'_>,
     kept_speeds: &mut [u16],
     kept_co2: &mut [u32],
     ends: &mut [u16],
 ) -> Found
-    requires { Findable plan states.now speeds.now co2.now (length kept_speeds.old) (length kept_co2.old) (length ends.old) }
-    ensures { let keeps = kept_of states.now speeds.now in
-        let kept_speed_values = keeps speeds.now in
-        let kept_co2_values = keeps co2.now in
+    requires { let lanes = lanes_in trip.now in
+        Findable plan lanes.states lanes.speeds lanes.co2 (length kept_speeds.old) (length kept_co2.old) (length ends.old) }
+    ensures { let lanes = lanes_in trip.now in
+        let keeps = kept_of lanes.states lanes.speeds in
+        let kept_speed_values = keeps lanes.speeds in
+        let kept_co2_values = keeps lanes.co2 in
         (result ≡ found_in plan kept_speed_values kept_co2_values)
         × (kept_speeds.new ≡ with_front kept_speed_values kept_speeds.old)
         × (kept_co2.new ≡ with_front kept_co2_values kept_co2.old)
         × (ends.new ≡ ends_in plan kept_co2_values ends.old) }
 {
-    let count = kept::keep(states, speeds, co2, kept_speeds, kept_co2);
+    let count = kept::keep(trip, kept_speeds, kept_co2);
     find_in(plan, &kept_speeds[..count], &kept_co2[..count], ends)
 }
 
@@ -55,12 +59,12 @@ fn find_in(plan: Plan, speeds: &[u16], co2: &[u32], ends: &mut [u16]) -> Found
 {
     let swept = sweep_all(plan.reference, co2, ends);
     let windows = swept.dropped as usize;
-    let all = windows::count_windows(plan, speeds, co2, ends, windows);
+    let [urban, rural, motorway, _] = windows::count_windows(plan, speeds, co2, &ends[..windows]);
     Found {
         kept: co2.len() as u32,
         windows: windows as u32,
         moves: swept.moves as u32,
-        classes: three_of(all),
+        classes: [urban, rural, motorway],
     }
 }
 
@@ -74,24 +78,8 @@ fn sweep_all(reference: u32, co2: &[u32], ends: &mut [u16]) -> SweepState
         × (result.moves ≡ moves)
         × (ends.new ≡ ends_after reference masses moves beginning ends.old) }
 {
-    let start = SweepState {
-        taken: 0,
-        dropped: 0,
-        mass: 0,
-        moves: 0,
-    };
+    let start = SweepState::default();
     let enough = 2 * (co2.len() as u64);
     let swept = sweep::sweep(reference, co2, ends, start, enough);
     swept.state
-}
-
-// The counts of the three classes, without that of windows that have none.
-fn three_of(all: [ClassCount; 4]) -> [ClassCount; 3]
-    ensures { result ≡ three_of all }
-{
-    [
-        all[base::road::URBAN],
-        all[base::road::RURAL],
-        all[base::road::MOTORWAY],
-    ]
 }

@@ -1,7 +1,6 @@
 -- One block more, after those that were fed. Assumes nothing.
 use Prim.Native.Nat.{ℕ, zero, suc, ◌<◌}
 use mathlib.Core.Path.{◌≡◌, refl, sym, ◌∙◌, ap}
-use mathlib.Core.Bool.{true}
 use mathlib.Core.List.{List, [], ◌∷◌, ◌++◌, map, flatten}
 use native.Mathlib.Omega.{arith}
 use native.Mathlib.Nat.{min-le_right}
@@ -11,50 +10,35 @@ use Rattle.item.specs.Format.{Bytes}
 use Rattle.item.proofs.Encoding.{no_bytes, append-bytes, take-bytes}
 use Rattle.second.specs.declared.Row.{Row}
 use Rattle.reader.specs.declared.Reader.{Reader}
-use Rattle.reader.specs.declared.Fed.{Fed}
 use Rattle.reader.specs.Reader.{carry_places, started}
-use Rattle.reader.specs.Blocks.{reader_after, seconds_added, lane_with, fed_all, lane_all, fed_of, lane_fed, lanes_fed}
-use Rattle.reader.specs.Inside.{was_made}
+use Rattle.reader.specs.Blocks.{reader_after, seconds_added, lane_with, fed_all, lane_all}
 use Rattle.reader.proofs.EachLane.{each_same, each_long}
-use Rattle.reader.proofs.Making.{start_made, start_places, feeding_places, fed_nothing}
-use Rattle.reader.proofs.Whole.{fed_made, lane_made, fed_all_lem, lane_all_lem}
+use Rattle.reader.proofs.Making.{start_made, start_places, feeding_places}
+use Rattle.reader.proofs.Whole.{fed_all_lem}
+use Rattle.blocks.specs.Inside.{written}
 use Rattle.second.specs.Lanes.{Lanes, room_in, each_lane}
 use Rattle.second.proofs.EachLane.{Long, same_room}
-use Rattle.input.specs.Inside.{HasFed}
 use Rattle.input.specs.Input.{block_most, Block, HasRead}
 
 -- ---- a read
+-- the bytes that came were fed to the reader, once, and their seconds stand in the lanes
+pub record HasFed (before : Lanes) (r : Reader) (came : List ℕ) (next : Reader) (after : Lanes) : Type 0 where
+  pub block : Block came
+  pub reader : next ≡ reader_after (room_in before) r came
+  pub lanes : after ≡ each_lane (λ A value. lane_with value (room_in before) r came) before
+
 pub no_block : Block []
 no_block = record { bytes = no_bytes; most = omega arith }
-
--- that brought nothing
-lane_nothing : (A : Type 0) (value : Row → A) (room : ℕ) (r : Reader) (lane : List A) → was_made r ≡ true → length r.held ≡ carry_places → lane ≡ lane_with value room r [] lane
-unfolding lane_all flatten
-lane_nothing A value room r lane made long = lane_all_lem room value [] r lane made long
-
-pub has_fed_nothing : (lanes : Lanes) (r : Reader) → was_made r ≡ true → length r.held ≡ carry_places → HasFed lanes r [] r lanes
-has_fed_nothing lanes r made long =
-    record {
-      block = no_block;
-      reader = sym (fed_nothing (room_in lanes) r made long);
-      lanes = each_same (λ A value lane. lane) (λ A value. lane_with value (room_in lanes) r []) lanes (λ A value lane fits. lane_nothing A value (room_in lanes) r lane made long);
-    }
 
 -- that brought a block
 pub block_of : (n : ℕ) (block : List ℕ) → length block ≡ block_most → ((i : ℕ) → get_or block i 0 < 256) → Block (take n block)
 block_of n block long bytes =
     record { bytes = take-bytes n block bytes; most = rw (length-take n block) (omega (arith, min-le_right n (length block))) }
 
-module _ (before after : Lanes) (r : Reader) (came : List ℕ) (made : was_made r ≡ true) where
-  pub has_fed : (fed : Fed) → Block came → fed ≡ fed_of (room_in before) r came → after ≡ lanes_fed r came before → HasFed before r came fed.reader after
-  has_fed fed block is left =
-      record {
-        block = block;
-        reader = ap (λ (f : Fed). f.reader) (is ∙ fed_made r made (room_in before) came);
-        lanes =
-            left
-            ∙ each_same (λ A value. lane_fed value (room_in before) r came) (λ A value. lane_with value (room_in before) r came) before (λ A value lane fits. lane_made r made value (room_in before) came lane);
-      }
+-- and was fed
+pub has_fed : (before : Lanes) (r : Reader) {came : List ℕ} {next : Reader} {after : Lanes} → Block came → next ≡ reader_after (room_in before) r came → after ≡ written r.seconds (seconds_added (room_in before) r came) before → HasFed before r came next after
+unfolding written lane_with
+has_fed before r block is left = record { block = block; reader = is; lanes = left }
 
 -- ---- all reads
 -- before the first

@@ -1,3 +1,2 @@
 -- The definitions of the reading of the input.
 pub mod Input
-pub mod Inside

@@ -3,14 +3,15 @@
 // what is made of the bytes that came. specs/Input.antt says what is right.
 #![tactic(auto)]
 
-ghost use Rattle.std.specs.Prelude.{◌≡◌, false, ◌≤◌, length, take};
-ghost use Rattle.second.specs.Lanes.{lanes_of};
-ghost use Rattle.input.specs.Inside.{Unsettled, HasFed};
+ghost use Rattle.std.specs.Prelude.{◌≡◌, false, length, MatchResult, IfOk};
+ghost use Rattle.second.specs.Inside.{lanes_lent, SameLent};
 ghost use Rattle.input.specs.Input.{block_most, reads_on, HasRead};
 
-use base::limits;
+use base::{limits, refusal};
 use item::kind;
 use reader::Reader;
+use reader::made::Made;
+use second::LentLanes;
 use std::io::{Read, Stdin};
 
 // The most bytes of one read.
@@ -24,81 +25,47 @@ const READS: usize = kind::PLAN_SIZE + limits::TRIP * kind::LONGEST_SECOND + kin
 #[derive(Clone, Copy)]
 pub struct Input {
     pub reader: Reader,
-    pub came: usize, // how many bytes the last read brought
-    pub more: bool, // whether more bytes can come and change the answer
-    pub failed: bool, // whether a read failed
+    pub came: usize, // how many bytes the last read brought, 0 at the end
 }
 
-// Reads the input until no further byte can change the answer: to its end, to the first bad item, or
-// to a read that fails.
+impl Input {
+    // Whether more bytes can come and change the answer.
+    pub fn reads_on(&self) -> bool
+        ensures { result ≡ reads_on self.now }
+    {
+        (self.came != 0) & (self.reader.refusal == refusal::ACCEPTED)
+    }
+}
+
+// Reads the input until no further byte can change the answer: to its end, or to the first bad item. A
+// read that fails, also where a signal interrupts it, ends the reading: then it answers the reader as it
+// stood.
 pub fn read_input(
-    stdin: Stdin,
+    mut stdin: Stdin,
     block: &mut [u8],
-    states: &mut [u8],
-    speeds: &mut [u16],
-    altitudes: &mut [i32],
-    co2: &mut [u32],
-    nox: &mut [u32],
-) -> Input
+    lanes: &mut LentLanes<'_>,
+) -> Result<Input, Reader>
     requires { length block.old ≡ block_most }
-    ensures read { let before = lanes_of states.old speeds.old altitudes.old co2.old nox.old in
-        let after = lanes_of states.new speeds.new altitudes.new co2.new nox.new in
-        HasRead before result.reader after }
-    ensures ended { reads_on result ≡ false }
+    ensures read { MatchResult result (λ input. HasRead (lanes_lent lanes.old) input.reader (lanes_lent lanes.new)) (λ reader. HasRead (lanes_lent lanes.old) reader (lanes_lent lanes.new)) }
+    ensures ended { IfOk result (λ input. reads_on input ≡ false) }
+    ensures same { SameLent lanes.old lanes.new }
 {
-    let mut input = Input {
+    let mut made = Made {
         reader: reader::start(),
-        came: 0,
-        more: true,
-        failed: false,
     };
-    let mut reads = READS;
-    while reads > 0 && input.more {
-        let reader = input.reader;
-        input = read_block(stdin, reader, block, states, speeds, altitudes, co2, nox);
-        reads -= 1;
-    }
-    input
-}
-
-// Reads a block, as many bytes as there are, and feeds it to the reader. A read that brings no byte is
-// the end of the input, or failed; one that a signal interrupts failed.
-fn read_block(
-    stdin: Stdin,
-    reader: Reader,
-    block: &mut [u8],
-    states: &mut [u8],
-    speeds: &mut [u16],
-    altitudes: &mut [i32],
-    co2: &mut [u32],
-    nox: &mut [u32],
-) -> Input
-    requires unsettled { Unsettled reader }
-    requires block_len { length block.old ≡ block_most }
-    ensures fed { let before = lanes_of states.old speeds.old altitudes.old co2.old nox.old in
-        let after = lanes_of states.new speeds.new altitudes.new co2.new nox.new in
-        HasFed before reader (take result.came block.new) result.reader after }
-    ensures within { result.came ≤ block_most }
-    ensures goes_on { result.more ≡ reads_on result }
-{
-    let mut from = stdin;
-    let got = from.read(block);
-    let failed = got.is_err();
-    let came = got.unwrap_or(0);
-    if came == 0 {
-        return Input {
-            reader: reader,
-            came: 0,
-            more: false,
-            failed: failed,
+    for _ in 0..READS {
+        let Ok(came) = stdin.read(block) else {
+            return Err(made.reader);
         };
+        let next = blocks::take(made, &block[..came], lanes);
+        let input = Input {
+            reader: next.reader,
+            came,
+        };
+        if !input.reads_on() {
+            return Ok(input);
+        }
+        made = next;
     }
-    let fed = blocks::feed(reader, &block[..came], states, speeds, altitudes, co2, nox);
-    let next = fed.reader;
-    Input {
-        reader: next,
-        came: came,
-        more: next.refusal == base::refusal::ACCEPTED,
-        failed: false,
-    }
+    unreachable!()
 }

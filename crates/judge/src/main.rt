@@ -7,16 +7,19 @@
 
 ghost use Rattle.std.specs.Prelude.{◌≡◌, true, false, length};
 ghost use Rattle.base.specs.Words.{with_front};
-ghost use Rattle.second.specs.Lanes.{lanes_of};
-ghost use Rattle.trip.specs.Lent.{lent_of, rooms_in};
+ghost use Rattle.second.specs.Inside.{lanes_in, lanes_lent};
+ghost use Rattle.trip.specs.Lent.{rooms_in};
+ghost use Rattle.trip.specs.Inside.{lent_in, SameWork};
 ghost use Rattle.report.specs.Lines.{longest_text};
 ghost use Rattle.printed.specs.Printed.{printed_text, lent_after};
 ghost use Rattle.input.specs.Input.{block_most};
 ghost use Rattle.judge.specs.Inside.{HasPlaces};
 ghost use Rattle.judge.specs.Judged.{JudgedAsOne};
 
+use second::{LentLanes, Trip};
 use std::io::{Stderr, Stdin, Stdout, Write};
 use stream::ReadAnswer;
+use trip::Workspace;
 
 // The places of each lane that the program lends, a second in each. No lane passes 64 KiB.
 const PLACES: usize = 8_192;
@@ -35,20 +38,26 @@ fn main(rt: HostRuntime) {
     let mut ends = [0u16; PLACES];
     let mut ranks = [0u32; PLACES];
     let mut text = [0u8; report::LONGEST_TEXT];
+    let mut lanes = LentLanes {
+        states: &mut states,
+        speeds: &mut speeds,
+        altitudes: &mut altitudes,
+        co2: &mut co2,
+        nox: &mut nox,
+    };
+    let mut work = Workspace {
+        kept_speeds: &mut kept_speeds,
+        kept_co2: &mut kept_co2,
+        ends: &mut ends,
+        ranks: &mut ranks,
+    };
     let could_read = judge_input(
         rt.stdin(),
         rt.stdout(),
         rt.stderr(),
         &mut block,
-        &mut states,
-        &mut speeds,
-        &mut altitudes,
-        &mut co2,
-        &mut nox,
-        &mut kept_speeds,
-        &mut kept_co2,
-        &mut ends,
-        &mut ranks,
+        &mut lanes,
+        &mut work,
         &mut text,
     );
     if !could_read {
@@ -64,45 +73,21 @@ fn judge_input(
     stdout: Stdout,
     stderr: Stderr,
     block: &mut [u8],
-    states: &mut [u8],
-    speeds: &mut [u16],
-    altitudes: &mut [i32],
-    co2: &mut [u32],
-    nox: &mut [u32],
-    kept_speeds: &mut [u16],
-    kept_co2: &mut [u32],
-    ends: &mut [u16],
-    ranks: &mut [u32],
+    lanes: &mut LentLanes<'_>,
+    work: &mut Workspace<'_>,
     text: &mut [u8],
 ) -> bool
     requires block_len { length block.old ≡ block_most }
-    requires has_places { HasPlaces (lanes_of states.old speeds.old altitudes.old co2.old nox.old) (rooms_in (lent_of kept_speeds.old kept_co2.old ends.old ranks.old)) }
+    requires has_places { HasPlaces (lanes_lent lanes.old) (rooms_in (lent_in work.old)) }
     requires text_len { length text.old ≡ longest_text }
-    ensures judged { let lanes = lanes_of states.old speeds.old altitudes.old co2.old nox.old in
-        let rooms = rooms_in (lent_of kept_speeds.old kept_co2.old ends.old ranks.old) in
-        (result ≡ true → JudgedAsOne lanes rooms text.old text.new) }
+    ensures judged { result ≡ true → JudgedAsOne (lanes_lent lanes.old) (rooms_in (lent_in work.old)) text.old text.new }
     ensures unjudged { result ≡ false → text.new ≡ text.old }
 {
-    let input = input::read_input(stdin, block, states, speeds, altitudes, co2, nox);
-    let reader = input.reader;
-    if input.failed {
+    let Ok(input) = input::read_input(stdin, block, lanes) else {
         return false;
-    }
-    print_answer(
-        stdout,
-        stderr,
-        reader::end(reader),
-        states,
-        speeds,
-        altitudes,
-        co2,
-        nox,
-        kept_speeds,
-        kept_co2,
-        ends,
-        ranks,
-        text,
-    );
+    };
+    let read = reader::end(input.reader);
+    print_answer(stdout, stderr, read, &lanes.as_trip(), work, text);
     true
 }
 
@@ -111,37 +96,16 @@ fn print_answer(
     stdout: Stdout,
     stderr: Stderr,
     read: ReadAnswer,
-    states: &[u8],
-    speeds: &[u16],
-    altitudes: &[i32],
-    co2: &[u32],
-    nox: &[u32],
-    kept_speeds: &mut [u16],
-    kept_co2: &mut [u32],
-    ends: &mut [u16],
-    ranks: &mut [u32],
+    lanes: &Trip<'_>,
+    work: &mut Workspace<'_>,
     text: &mut [u8],
 )
     requires { length text.old ≡ longest_text }
-    ensures { let lanes = lanes_of states.now speeds.now altitudes.now co2.now nox.now in
-        let lent = lent_of kept_speeds.old kept_co2.old ends.old ranks.old in
-        let left = lent_of kept_speeds.new kept_co2.new ends.new ranks.new in
-        (text.new ≡ with_front (printed_text read lanes (rooms_in lent)) text.old)
-        × (left ≡ lent_after read lanes lent) }
+    ensures printed { text.new ≡ with_front (printed_text read (lanes_in lanes.now) (rooms_in (lent_in work.old))) text.old }
+    ensures left { lent_in work.new ≡ lent_after read (lanes_in lanes.now) (lent_in work.old) }
+    ensures same { SameWork work.old work.new }
 {
-    let length = printed::write_text(
-        read,
-        states,
-        speeds,
-        altitudes,
-        co2,
-        nox,
-        kept_speeds,
-        kept_co2,
-        ends,
-        ranks,
-        text,
-    );
+    let length = printed::write_text(read, lanes, work, text);
     let mut out = stdout;
     if !write_whole(&mut out, &text[..length]) {
         let mut error = stderr;
@@ -153,6 +117,7 @@ fn print_answer(
 // answers false.
 fn write_whole<W: Write>(to: &mut W, bytes: &[u8]) -> bool {
     let mut done = 0;
+    // Kept: may not change: a write that a signal interrupts ends it, where `write_all` would go on.
     while done < bytes.len() {
         let took = to.write(&bytes[done..]).unwrap_or(0);
         if took == 0 {

@@ -7,6 +7,7 @@ ghost use Rattle.std.specs.Prelude.{◌≡◌, ◌+◌, ◌*◌, ltb};
 ghost use Rattle.lively.specs.Lively.{too_lively, too_dull, below_curve};
 
 // Whether a bin is too lively.
+// Kept: no plainer: s, n and q as in the paper, of which `reasons` would build a struct for one test.
 pub fn too_lively(s: u32, n: u32, q: u64) -> bool
     ensures { result ≡ too_lively s n q }
 {

@@ -3,5 +3,4 @@ pub mod Ranges
 pub mod Products
 pub mod Inputs
 pub mod WholePart
-pub mod Answer
 pub mod Theorems

@@ -1,6 +1,6 @@
 -- What the definitions of the mass step amount to: refused exactly when, the floor, a zero of either sign. Assumes nothing.
 use Prim.Native.Nat.{ℕ, ◌+◌, ◌*◌, ◌/◌, ◌≤◌, ◌<◌}
-use mathlib.Core.Path.{◌≡◌, refl, sym}
+use mathlib.Core.Path.{◌≡◌, refl}
 use mathlib.Core.Bool.{Bool, true, false, ◌&&◌}
 use mathlib.Core.Logic.{◌↔◌}
 use native.Mathlib.Nat.{div-mul-le_self, lt-div-mul-add, add-mul, one-mul, zero-mul, zero-div}
@@ -10,18 +10,18 @@ use lib.IntN.{ℤ, pos}
 use lib.Ieee.{Float, fin, of_int, le, lt, eq, up, down}
 use lib.Ieee.Fits.{down_pos}
 use borrow.Author.Tests.{leb-true, leb-false, le-leb, lt-leb}
+use Rattle.std.specs.Prelude.{Result, Ok, Err}
 use Rattle.base.specs.Words.{pick}
 use Rattle.mass.specs.declared.Reading.{Reading}
 use Rattle.mass.specs.declared.Reading.TheVariants.{WetPpm, DryPpm, WetPercent, DryPercent}
 use Rattle.mass.specs.declared.Setting.{Setting}
-use Rattle.mass.specs.declared.Weighed.{Weighed}
-use Rattle.mass.specs.declared.Weighed.TheVariants.{Mass, BadInput, TooLarge}
+use Rattle.base.specs.declared.refusal.Refusal.{Refusal}
+use Rattle.base.specs.declared.refusal.Refusal.TheVariants.{MassInput, MassTooLarge}
 use Rattle.mass.specs.Inside.{Bounded, bounded}
 use Rattle.mass.specs.Mass.{zero_to, reading_in_range, setting_in_range, last_product, whole_part, mass_answer}
 use Rattle.mass.specs.Outcomes.{Outcome, bad_input, too_large, fine}
 use Rattle.mass.proofs.Products.{times_bounded}
 use Rattle.mass.proofs.Inputs.{in_ppm, setting_bounded, ppm_in_percent, wet_at_most, wet_bounded}
-use Rattle.mass.proofs.Answer.{whole_mass}
 
 -- ---- refused exactly when
 module _ (scale : Float) (limit : ℕ) (reading : Reading) (s : Setting) where
@@ -33,19 +33,19 @@ module _ (scale : Float) (limit : ℕ) (reading : Reading) (s : Setting) where
       whole : ℕ
       whole = whole_part (last_product scale reading s)
 
-      go : (t : Bool) → reading_in_range reading && setting_in_range s ≡ t → (l : Bool) → leb whole limit ≡ l → Outcome scale limit reading s (pick t (pick l (Mass whole) TooLarge) BadInput)
+      go : (t : Bool) → reading_in_range reading && setting_in_range s ≡ t → (l : Bool) → leb whole limit ≡ l → Outcome scale limit reading s (pick t (pick l (Ok whole) (Err MassTooLarge)) (Err MassInput))
       go false p l q = bad_input p
       go true p false q = too_large p (leb-false whole limit q)
       go true p true q = fine p (leb-true whole limit q)
 
   -- and no other: each is given whenever what it says holds
-  pub only : {answer : Weighed} → Outcome scale limit reading s answer → mass_answer scale limit reading s ≡ answer
+  pub only : {answer : Result ℕ Refusal} → Outcome scale limit reading s answer → mass_answer scale limit reading s ≡ answer
   unfolding mass_answer
   only (bad_input p) = rw p
   only (too_large p l) = rw (p, lt-leb (whole_part (last_product scale reading s)) limit l)
   only (fine p l) = rw (p, le-leb (whole_part (last_product scale reading s)) limit l)
 
-  pub refused_exactly : (answer : Weighed) → (mass_answer scale limit reading s ≡ answer) ↔ Outcome scale limit reading s answer
+  pub refused_exactly : (answer : Result ℕ Refusal) → (mass_answer scale limit reading s ≡ answer) ↔ Outcome scale limit reading s answer
   refused_exactly answer = (λ e. rw e at outcome, only)
 
 -- ---- the whole part is the floor: at most the number m * 2 ^ e = m * up e / down e, and less than 1 below it
@@ -62,6 +62,10 @@ pub data ZeroReading : Reading → Type 0 where
   dry_ppm : (sign : Bool) → ZeroReading (DryPpm (fin sign 0 (pos 0)))
   wet_percent : (sign : Bool) → ZeroReading (WetPercent (fin sign 0 (pos 0)))
   dry_percent : (sign : Bool) → ZeroReading (DryPercent (fin sign 0 (pos 0)))
+
+-- where inputs in range have no whole part, the mass is 0
+no_mass : (scale : Float) (limit : ℕ) (reading : Reading) (s : Setting) → reading_in_range reading ≡ true → setting_in_range s ≡ true → whole_part (last_product scale reading s) ≡ 0 → mass_answer scale limit reading s ≡ Ok 0
+no_mass scale limit reading s r h none = rw none at (only scale limit reading s (fine (rw (r, h) refl) (omega (arith, none))))
 
 no_whole : {x : Float} → Bounded x 0 → whole_part x ≡ 0
 unfolding whole_part
@@ -89,18 +93,18 @@ zero_ppm (dry_ppm sign) = zero_bounded sign
 zero_ppm (wet_percent sign) = times_bounded (zero_bounded sign) ppm_in_percent (lit≤ tt)
 zero_ppm (dry_percent sign) = times_bounded (zero_bounded sign) ppm_in_percent (lit≤ tt)
 
-pub zero_reading : {scale : Float} (limit : ℕ) {reading : Reading} (s : Setting) → Bounded scale 1_000_000 → ZeroReading reading → setting_in_range s ≡ true → mass_answer scale limit reading s ≡ Mass 0
+pub zero_reading : {scale : Float} (limit : ℕ) {reading : Reading} (s : Setting) → Bounded scale 1_000_000 → ZeroReading reading → setting_in_range s ≡ true → mass_answer scale limit reading s ≡ Ok 0
 unfolding last_product
 zero_reading {scale} limit {reading} s b zero h =
     let in_range = setting_bounded s h in
     let none = times_bounded (times_bounded (times_bounded in_range.u (wet_at_most reading s.factor 0 (lit≤ tt) (zero_ppm zero) in_range.factor) (lit≤ tt)) in_range.flow (lit≤ tt)) b (lit≤ tt) in
-    whole_mass scale limit reading s (zero_in_range zero) h (sym (no_whole none)) (omega arith)
+    no_mass scale limit reading s (zero_in_range zero) h (no_whole none)
 
-pub zero_flow : {scale : Float} (limit : ℕ) (reading : Reading) (s : Setting) → Bounded scale 1_000_000 → (sign : Bool) → s.flow ≡ fin sign 0 (pos 0) → reading_in_range reading ≡ true → setting_in_range s ≡ true → mass_answer scale limit reading s ≡ Mass 0
+pub zero_flow : {scale : Float} (limit : ℕ) (reading : Reading) (s : Setting) → Bounded scale 1_000_000 → (sign : Bool) → s.flow ≡ fin sign 0 (pos 0) → reading_in_range reading ≡ true → setting_in_range s ≡ true → mass_answer scale limit reading s ≡ Ok 0
 unfolding last_product
 zero_flow {scale} limit reading s b sign zero r h =
     let in_range = setting_bounded s h in
     let flow : Bounded s.flow 0 = rw zero (zero_bounded sign) in
     let wet = times_bounded in_range.u (wet_bounded reading s.factor r in_range.factor) (lit≤ tt) in
     let none = times_bounded (times_bounded wet flow (lit≤ tt)) b (lit≤ tt) in
-    whole_mass scale limit reading s r h (sym (no_whole none)) (omega arith)
+    no_mass scale limit reading s r h (no_whole none)

@@ -1,12 +1,12 @@
 -- From concentration to mass (Appendix 4). Numbers are f64, and a product is rounded once, to the nearest f64 (IEEE 754).
-use Rattle.std.specs.Prelude.{ℕ, ◌*◌, ◌/◌, Bool, false, ◌&&◌, leb, pos, Float}
+use Rattle.std.specs.Prelude.{ℕ, ◌*◌, ◌/◌, Bool, false, ◌&&◌, leb, pos, Float, Result, Ok, Err}
 use Rattle.std.specs.Float.{nan, inf, fin, binary64}
 use Rattle.std.specs.Float.Ieee.{mul, le, lt, of_int, round, up, down}
 use Rattle.mass.specs.declared.Reading.{Reading}
 use Rattle.mass.specs.declared.Reading.TheVariants.{WetPpm, DryPpm, WetPercent, DryPercent}
 use Rattle.mass.specs.declared.Setting.{Setting}
-use Rattle.mass.specs.declared.Weighed.{Weighed}
-use Rattle.mass.specs.declared.Weighed.TheVariants.{Mass, BadInput, TooLarge}
+use Rattle.base.specs.declared.refusal.Refusal.{Refusal}
+use Rattle.base.specs.declared.refusal.Refusal.TheVariants.{MassInput, MassTooLarge}
 use Rattle.base.specs.Limits.{co2_most, nox_most}
 use Rattle.base.specs.Words.{pick}
 
@@ -69,21 +69,21 @@ whole_part (inf s) = 0
 whole_part (fin s m e) = m * up e / down e
 
 -- "The whole part of the last product is the answer"; 9 where an input is out of range, then 10 where the mass is above limit
-unfoldable pub mass_answer : Float → ℕ → Reading → Setting → Weighed
+unfoldable pub mass_answer : Float → ℕ → Reading → Setting → Result ℕ Refusal
 mass_answer scale limit reading s =
     pick (reading_in_range reading && setting_in_range s)
-    (pick (leb (whole_part (last_product scale reading s)) limit) (Mass (whole_part (last_product scale reading s))) TooLarge)
-    BadInput
+    (pick (leb (whole_part (last_product scale reading s)) limit) (Ok (whole_part (last_product scale reading s))) (Err MassTooLarge))
+    (Err MassInput)
 
 -- CO2 in mg, and NOx in µg
 abbrev pub mg_in_a_gram : Float
 mg_in_a_gram = number 1_000
 
-unfoldable pub co2_mass : Reading → Setting → Weighed
+unfoldable pub co2_mass : Reading → Setting → Result ℕ Refusal
 co2_mass = mass_answer mg_in_a_gram co2_most
 
 abbrev pub µg_in_a_gram : Float
 µg_in_a_gram = number 1_000_000
 
-unfoldable pub nox_mass : Reading → Setting → Weighed
+unfoldable pub nox_mass : Reading → Setting → Result ℕ Refusal
 nox_mass = mass_answer µg_in_a_gram nox_most

@@ -7,6 +7,8 @@ ghost use Rattle.std.specs.Prelude.{◌≡◌};
 ghost use Rattle.mass.specs.Mass.{zero_to, above_zero_to, reading_in_range, setting_in_range, wet_ppm, last_product, whole_part, mass_answer, co2_mass, nox_mass};
 ghost use Rattle.mass.specs.Inside.{Bounded};
 
+use base::Refusal;
+
 // What the gas bench read. Ppm runs 0 to 200,000, percent 0 to 20.
 #[derive(Clone, Copy)]
 pub enum Reading {
@@ -25,23 +27,16 @@ pub struct Setting {
     pub flow: f64, // exhaust flow, kg/s: 0 to 1
 }
 
-// The answer of the mass step.
-#[derive(Clone, Copy)]
-pub enum Weighed {
-    Mass(u32), // accepted: the whole mass
-    BadInput, // refusal 9: a mass input not finite or out of range
-    TooLarge, // refusal 10: the whole-part mass above the second's range
-}
-
 // The CO2 mass of the second, in mg.
-pub fn co2_mass(reading: Reading, setting: Setting) -> Weighed
+// Kept: no plainer: the two calls of the paper; what they share is `mass_of`.
+pub fn co2_mass(reading: Reading, setting: Setting) -> Result<u32, Refusal>
     ensures { result ≡ co2_mass reading setting }
 {
     mass_of(reading, setting, MG_IN_A_GRAM, base::limits::CO2)
 }
 
 // The NOx mass of the second, in µg.
-pub fn nox_mass(reading: Reading, setting: Setting) -> Weighed
+pub fn nox_mass(reading: Reading, setting: Setting) -> Result<u32, Refusal>
     ensures { result ≡ nox_mass reading setting }
 {
     mass_of(reading, setting, UG_IN_A_GRAM, base::limits::NOX)
@@ -65,21 +60,18 @@ const FLOW_MAX: f64 = 1.0; // from 0
 const PPM_IN_A_PERCENT: f64 = 10_000.0;
 
 // The mass at a scale, refused where it is above limit.
-fn mass_of(reading: Reading, setting: Setting, scale: f64, limit: u32) -> Weighed
+fn mass_of(reading: Reading, setting: Setting, scale: f64, limit: u32) -> Result<u32, Refusal>
     requires { Bounded scale 1_000_000 }
     ensures { result ≡ mass_answer scale limit reading setting }
 {
-    if !reading_in_range(reading) {
-        return Weighed::BadInput;
-    }
-    if !setting_in_range(setting) {
-        return Weighed::BadInput;
+    if !reading_in_range(reading) || !setting_in_range(setting) {
+        return Err(Refusal::MassInput);
     }
     let whole = whole_part(last_product(reading, setting, scale));
     if whole <= limit as u64 {
-        Weighed::Mass(whole as u32)
+        Ok(whole as u32)
     } else {
-        Weighed::TooLarge
+        Err(Refusal::MassTooLarge)
     }
 }
 
@@ -88,10 +80,8 @@ fn reading_in_range(reading: Reading) -> bool
     ensures { result ≡ reading_in_range reading }
 {
     match reading {
-        Reading::WetPpm(x) => zero_to(x, PPM_MAX),
-        Reading::DryPpm(x) => zero_to(x, PPM_MAX),
-        Reading::WetPercent(x) => zero_to(x, PERCENT_MAX),
-        Reading::DryPercent(x) => zero_to(x, PERCENT_MAX),
+        Reading::WetPpm(x) | Reading::DryPpm(x) => zero_to(x, PPM_MAX),
+        Reading::WetPercent(x) | Reading::DryPercent(x) => zero_to(x, PERCENT_MAX),
     }
 }
 
@@ -108,10 +98,11 @@ fn setting_in_range(setting: Setting) -> bool
 fn zero_to(x: f64, top: f64) -> bool
     ensures { result ≡ zero_to x top }
 {
-    (0.0 <= x) & (x <= top)
+    (0.0..=top).contains(&x)
 }
 
 // Whether x is above 0 and at most top. A NaN is not.
+// Kept: no plainer: a range that leaves out its start is a pair of bounds in std, longer than this.
 fn above_zero_to(x: f64, top: f64) -> bool
     ensures { result ≡ above_zero_to x top }
 {
@@ -146,6 +137,7 @@ const FRACTION: u64 = 0x10_0000_0000_0000;
 const EXPONENT_OF_WHOLE: u64 = 1_075;
 
 // The whole part of x, from its bits.
+// Kept: may not change: the paper has the whole part "found from its bits" (docs/MAP.md), so no cast takes it.
 fn whole_part(x: f64) -> u64
     requires { Bounded x 200_000_000_000 }
     ensures { result ≡ whole_part x }

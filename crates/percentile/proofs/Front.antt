@@ -5,7 +5,7 @@ use mathlib.Core.List.{List, ◌++◌}
 use native.Mathlib.Omega.{arith}
 use borrow.Author.Tests.{lt-ltb, le-ltb}
 use lib.ListN.{length, take, drop, length-append, length-drop}
-use lib.Seq.{length-take-le, length_front, take_at, drop_at}
+use lib.Seq.{length-take-le, take_at, drop_at}
 use Rattle.base.specs.Limits.{trip_limit}
 use Rattle.base.specs.Words.{with_front}
 use Rattle.order.specs.Sort.{sort}
@@ -27,14 +27,8 @@ module _ (lane : List ℕ) (m : ℕ) (h : m ≤ length lane) {ranked : List ℕ}
   pub ranked_length : length ranked ≡ m
   ranked_length = ap length is ∙ sort-length (take m lane) ∙ length-take-le m lane h
 
-  pub whole_length : length (ranked ++ drop m lane) ≡ length lane
-  whole_length = length_front lane ranked m (ranked_length ∙ sym (length-take-le m lane h))
-
   pub front : take m (ranked ++ drop m lane) ≡ ranked
   front = take_at ranked (drop m lane) m ranked_length
-
-  pub front_length : m ≡ length (take m (ranked ++ drop m lane))
-  front_length = sym (ap length front ∙ ranked_length)
 
   pub front_ranked : fewest ≤ m → m ≤ trip_limit → Ranked (take m (ranked ++ drop m lane))
   front_ranked some few =
@@ -46,9 +40,6 @@ module _ (lane : List ℕ) (m : ℕ) (h : m ≤ length lane) {ranked : List ℕ}
 
   pub q_of_front : fewest ≤ m → q_of (take m (ranked ++ drop m lane)) ≡ q_or_zero (take m lane)
   q_of_front some = ap q_of (front ∙ is) ∙ sym (enough (take m lane) (omega (arith, length-take-le m lane h)))
-
-  pub whole : ranked ++ drop m lane ≡ sort (take m lane) ++ drop m lane
-  whole = ap (λ (l : List ℕ). l ++ drop m lane) is
 
 -- values copied to the front of a lane
 module _ (values lane : List ℕ) (room : length values ≤ length lane) {filled : List ℕ} (is : filled ≡ with_front values lane) where

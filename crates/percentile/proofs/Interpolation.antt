@@ -1,11 +1,12 @@
 -- Q of ranked values: it is not below 0, and in natural numbers 100x(j) and r times the gap above it. Assumes nothing.
-use Prim.Native.Nat.{ℕ, ◌+◌, ◌-◌, ◌*◌, ◌/◌, ◌%◌, ◌≤◌}
+use Prim.Native.Nat.{ℕ, ◌+◌, ◌-◌, ◌*◌, ◌/◌, ◌%◌, ◌^◌, ◌≤◌, ◌<◌}
 use mathlib.Core.Path.{◌≡◌, refl, sym, ◌∙◌, ap}
 use mathlib.Core.List.{List}
 use native.Mathlib.Omega.{arith}
 use lib.IntN.{pos, nat_abs, ◌+ℤ◌, ◌-ℤ◌, ◌*ℤ◌}
 use lib.ListN.{length, get_or}
 use Rattle.base.proofs.Integers.{sub_up, pos_minus}
+use Rattle.base.proofs.Products.{product_at_most}
 use Rattle.percentile.specs.Percentile.{x, interpolated, q_of}
 use Rattle.percentile.specs.Inside.{Ranked}
 
@@ -15,6 +16,10 @@ j_of m = 95 * m / 100
 
 abbrev pub r_of : ℕ → ℕ
 r_of m = 95 * m % 100
+
+-- r times the gap between two values of 32 bits
+pub gap_small : (m low high : ℕ) → high < 2 ^ 32 → r_of m * (high - low) ≤ 100 * 2 ^ 32
+gap_small m low high h = product_at_most {m = 100} {n = 2 ^ 32} (100 * 2 ^ 32) (omega arith) (omega arith) tt
 
 -- a sum with a difference that is not below 0
 between : (a b r : ℕ) → a ≤ b → pos (100 * a) +ℤ pos r *ℤ (pos b -ℤ pos a) ≡ pos (100 * a + r * (b - a))

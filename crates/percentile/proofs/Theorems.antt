@@ -7,7 +7,10 @@ use mathlib.Core.Logic.{◌↔◌}
 use borrow.Author.Tests.{ltb-true, ltb-false, lt-ltb, le-ltb}
 use lib.Dec.{ltb, eqb}
 use lib.ListN.{length}
-use Rattle.base.specs.Refusal.{fault}
+use Rattle.std.specs.Prelude.{Result, Ok, Err}
+use Rattle.base.specs.Refusal as base
+use Rattle.base.specs.Refusal.{Fault, fault, answer_in}
+use Rattle.base.specs.declared.refusal.Refused.{Refused}
 use Rattle.base.specs.Limits.{trip_limit}
 use Rattle.base.specs.Second.{too_many}
 use Rattle.base.specs.Words.{pick}
@@ -15,8 +18,6 @@ use Rattle.base.specs.InFront.{InFront}
 use Rattle.base.proofs.InFront.{in_front}
 use Rattle.order.specs.Sort.{sort}
 use Rattle.order.proofs.Laws.{sort-length}
-use Rattle.base.specs.declared.Fault.{Fault}
-use Rattle.percentile.specs.declared.Answer.TheVariants.{Q, Refused}
 use Rattle.percentile.specs.Percentile.{fewest, q_of, first_bad_product, fault_of, answer_of, lane_of, fault_in}
 use Rattle.percentile.specs.Outcomes.{Outcome, if_too_many, too_few, if_too_short, if_out_of_range, fine}
 use Rattle.percentile.proofs.Refusals.{accepted_facts, lane_accepted}
@@ -61,12 +62,18 @@ module _ (values : List ℕ) (places : ℕ) where
   unfolding answer_of fault_in
   answer_fault = go (fault_of values places) outcome
     where
-      go : (f : Fault) → Outcome values places f → fault_in (pick (eqb f.number 0) (Q (q_of (sort values))) (Refused f)) ≡ f
+      go : (f : Fault) → Outcome values places f → fault_in (pick (eqb f.number 0) (Ok (q_of (sort values))) (Err f)) ≡ f
       go _ (if_too_many h) = refl
       go _ (too_few few h) = refl
       go _ (if_too_short few some h) = refl
       go _ (if_out_of_range few some room h) = refl
       go _ (fine few some room h) = refl
+
+-- what the code refuses is what its answer says
+pub given_fault : (answer : Result ℕ Refused) → base.fault_in answer ≡ fault_in (answer_in answer)
+unfolding fault_in
+given_fault (Ok q) = refl
+given_fault (Err refused) = refl
 
 -- an accepted call ranks the values into the first places, and changes no other
 pub accepted_writes : (values lane : List ℕ) → (fault_of values (length lane)).number ≡ 0 → InFront (sort values) (length values) lane (lane_of values lane)

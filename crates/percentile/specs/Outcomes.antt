@@ -1,8 +1,7 @@
 -- When each number of the percentile is given: "Percentile: 2, 12, 6, 3".
 use Rattle.std.specs.Prelude.{ℕ, ◌≤◌, ◌<◌, List, length}
-use Rattle.base.specs.Refusal.{accepted, too_many_values, out_of_range, lane_too_short, too_few_values, fault}
+use Rattle.base.specs.Refusal.{Fault, accepted, too_many_values, out_of_range, lane_too_short, too_few_values, fault}
 use Rattle.base.specs.Limits.{trip_limit}
-use Rattle.base.specs.declared.Fault.{Fault}
 use Rattle.percentile.specs.Percentile.{fewest, first_bad_product}
 
 module _ (values : List ℕ) (places : ℕ) where

@@ -1,12 +1,9 @@
 -- The percentile Q of products (Appendix 7a).
-use Rattle.std.specs.Prelude.{ℕ, ◌+◌, ◌-◌, ◌*◌, ◌/◌, ◌%◌, Bool, List, leb, ltb, eqb, ℤ, pos, nat_abs, ◌+ℤ◌, ◌-ℤ◌, ◌*ℤ◌, length, get_or}
-use Rattle.base.specs.Refusal.{accepted, too_many_values, out_of_range, lane_too_short, too_few_values, fault}
+use Rattle.std.specs.Prelude.{ℕ, ◌+◌, ◌-◌, ◌*◌, ◌/◌, ◌%◌, Bool, List, Result, Ok, Err, leb, ltb, eqb, ℤ, pos, nat_abs, ◌+ℤ◌, ◌-ℤ◌, ◌*ℤ◌, length, get_or}
+use Rattle.base.specs.Refusal.{Fault, accepted, too_many_values, out_of_range, lane_too_short, too_few_values, fault}
 use Rattle.base.specs.Second.{too_many}
 use Rattle.base.specs.Words.{pick, first_bad, with_front}
 use Rattle.order.specs.Sort.{sort}
-use Rattle.base.specs.declared.Fault.{Fault}
-use Rattle.percentile.specs.declared.Answer.{Answer}
-use Rattle.percentile.specs.declared.Answer.TheVariants.{Q, Refused}
 
 -- "Ranked ascending, x(1) to x(M)"
 abbrev pub x : List ℕ → ℕ → ℕ
@@ -49,14 +46,14 @@ fault_of values places =
     (fault accepted 0))))
 
 -- the answer
-unfoldable pub answer_of : List ℕ → ℕ → Answer
-answer_of values places = pick (eqb (fault_of values places).number accepted) (Q (q_of (sort values))) (Refused (fault_of values places))
+unfoldable pub answer_of : List ℕ → ℕ → Result ℕ Fault
+answer_of values places = pick (eqb (fault_of values places).number accepted) (Ok (q_of (sort values))) (Err (fault_of values places))
 
 -- "ranks them into a lent lane with a place for each": the lane afterwards
 unfoldable pub lane_of : List ℕ → List ℕ → List ℕ
 lane_of values lane = pick (eqb (fault_of values (length lane)).number accepted) (with_front (sort values) lane) lane
 
 -- the number of refusal and the place of an answer
-unfoldable pub fault_in : Answer → Fault
-fault_in (Refused given) = given
-fault_in (Q q) = fault accepted 0
+unfoldable pub fault_in : Result ℕ Fault → Fault
+fault_in (Err given) = given
+fault_in (Ok q) = fault accepted 0

@@ -1,63 +1,29 @@
 -- Demand 1, of the calls: whatever a contract of the library or of the C interface allows, its number of refusal is given exactly when its condition holds. The words stand in `specs/RefusedExactlyWhen`.
-use Rattle.std.specs.Prelude.{ℕ, ◌<◌, ◌≡◌, false, List, ◌↔◌, length}
-use Rattle.std.proofs.Common.{sym, ◌∙◌}
-use borrow.Fn.Kinds as contract
-use Rattle.base.specs.Refusal.{fault}
-use Rattle.base.specs.declared.Plan.{Plan}
+use Rattle.std.specs.Prelude.{length}
+use Rattle.base.specs.Refusal.{fault, answer_in}
 use Rattle.base.specs.Limits.{co2_most, nox_most}
-use Rattle.base.specs.declared.Fault.{Fault}
-use Rattle.second.specs.Lanes.{Lanes, room_in}
-use Rattle.mass.specs.declared.Reading.{Reading}
-use Rattle.mass.specs.declared.Setting.{Setting}
-use Rattle.mass.specs.declared.Weighed.{Weighed}
 use Rattle.mass.specs.Mass.{mg_in_a_gram, µg_in_a_gram, co2_mass, nox_mass}
 use Rattle.mass.specs.Outcomes as mass_outcomes
-use Rattle.mass.proofs.Theorems as mass
-use Rattle.item.specs.declared.Front.{Front}
-use Rattle.item.specs.Item.{item_of, refusal_of, length_of}
+use Rattle.item.specs.Item.{refusal_of}
 use Rattle.item.specs.Outcomes as item_outcomes
-use Rattle.item.proofs.Refused as item
-use Rattle.stream.specs.declared.ReadAnswer.{ReadAnswer}
-use Rattle.stream.specs.Reading.{read_of}
-use Rattle.stream.specs.Outcomes as stream_outcomes
-use Rattle.stream.proofs.Refusals as stream
-use Rattle.sweep.specs.declared.SweepState.{SweepState}
-use Rattle.sweep.specs.Sweep.{sweep_answer, refused_answer, place_of}
-use Rattle.sweep.specs.Outcomes as sweep_outcomes
-use Rattle.sweep.proofs.Theorems as sweep
-use Rattle.acceleration.specs.declared.Acceleration.{Acceleration}
 use Rattle.acceleration.specs.D as d
 use Rattle.acceleration.specs.Outcomes as d_outcomes
-use Rattle.acceleration.proofs.Theorems as acceleration
-use Rattle.percentile.specs.declared.Answer.{Answer}
 use Rattle.percentile.specs.Percentile as percentiles
 use Rattle.percentile.specs.Outcomes as percentile_outcomes
-use Rattle.percentile.proofs.Theorems as percentile
-use Rattle.trip.specs.declared.Rooms.{Rooms}
-use Rattle.trip.specs.Lent.{rooms_in}
-use Rattle.trip.specs.Trip.{answer_of, refused}
-use Rattle.trip.specs.Outcomes as trip_outcomes
-use Rattle.trip.proofs.Refused as trip
-use Rattle.trip.proofs.Theorems as trips
 use Rattle.report.specs.Lines.{judged_text, refusal_text}
 use Rattle.report.proofs.Fitting as fitting
 use Rattle.report.proofs.Theorems as texts
 use Rattle.printed.proofs.Texts as printed
-use Rattle.crossing.specs.Concentration as concentration
-use Rattle.crossing.specs.Items.{front_across, item_answer, no_contents}
-use Rattle.crossing.specs.Accelerations.{acceleration_across, percentile_across}
+use Rattle.crossing.specs.Items.{front_across}
 use Rattle.crossing.specs.Outcomes as crossing_outcomes
 use Rattle.crossing.proofs.Theorems as crossing
 use Rattle.mass.proofs.co2_mass.Reads as co2_mass_call
 use Rattle.mass.proofs.nox_mass.Reads as nox_mass_call
 use Rattle.item.proofs.read_item.Reads as read_item_call
-use Rattle.stream.proofs.read_stream.Kinds as stream_kinds
 use Rattle.stream.proofs.read_stream.Reads as read_stream_call
-use Rattle.sweep.proofs.sweep.Kinds as sweep_kinds
 use Rattle.sweep.proofs.sweep.Reads as sweep_call
 use Rattle.acceleration.proofs.d_of_second.Reads as d_of_second_call
 use Rattle.percentile.proofs.percentile.Reads as percentile_call
-use Rattle.trip.proofs.evaluate.Kinds as trip_kinds
 use Rattle.trip.proofs.evaluate.Reads as evaluate_call
 use Rattle.report.proofs.report.Reads as report_call
 use Rattle.report.proofs.report_refusal.Reads as report_refusal_call
@@ -70,10 +36,9 @@ use Rattle.capi.proofs.sweeping.pb_sweep.Reads as pb_sweep_call
 use Rattle.capi.proofs.accelerations.pb_acceleration.Reads as pb_acceleration_call
 use Rattle.capi.proofs.accelerations.pb_percentile.Reads as pb_percentile_call
 use Rattle.capi.proofs.trips.pb_evaluate.Reads as pb_evaluate_call
-use Rattle.pierbracken.specs.Calls.{Answers, stream_lanes, evaluation_lanes, lanes_before, index_behind, trip_in, lent_in, text_printed, print_buffer}
 use Rattle.pierbracken.specs.Calls as calls
 use Rattle.pierbracken.specs.FromC as from_c
-use Rattle.pierbracken.specs.RefusedExactlyWhen.{RefusedAs, StreamRefused, SweepRefused, TextRefused, TripRefused, co2_mass_lem, d_of_second, nox_mass_lem, of_call, one_item, ranking, sweeping, through, whole_stream, whole_trip}
+use Rattle.pierbracken.specs.RefusedExactlyWhen.{RefusedAs, StreamRefused, SweepRefused, TextRefused, TripRefused, co2_mass_lem, d_of_second, nox_mass_lem, of_call, of_call_as, one_item, ranking, sweeping, through, whole_stream, whole_trip}
 
 -- the mass of a second, in the library a reading, in C a kind and a value
 pub co2_mass_refused : RefusedAs co2_mass_call.Post (λ κs x. x) (λ κs a. mass_outcomes.Outcome mg_in_a_gram co2_most a.0 a.1.0)
@@ -99,10 +64,10 @@ unfolding front_across
 pb_item_refused = of_call from_c.pb_item (λ κs a. one_item a.0.now)
 
 -- a whole stream
-pub stream_refused : StreamRefused read_stream_call.Post
+pub stream_refused : StreamRefused read_stream_call.Post calls.stream_view
 stream_refused = of_call calls.read_stream (λ κs a. whole_stream _ a.0.now)
 
-pub pb_read_refused : StreamRefused pb_read_call.Post
+pub pb_read_refused : StreamRefused pb_read_call.Post from_c.stream_view
 pb_read_refused = of_call from_c.pb_read (λ κs a. whole_stream _ a.0.now)
 
 -- the sweep
@@ -113,24 +78,24 @@ pub pb_sweep_refused : SweepRefused pb_sweep_call.Post
 pb_sweep_refused = of_call from_c.pb_sweep (λ κs a. sweeping a.0 a.1.0.now (length a.1.1.0.now) a.1.1.1.0 a.1.1.1.1.0)
 
 -- D of one second
-pub d_refused : RefusedAs d_of_second_call.Post (λ κs x. d.fault_in x) (λ κs a. d_outcomes.Outcome (lanes_before κs a) (index_behind κs a))
-d_refused = of_call calls.d_of_second (λ κs a. d_of_second (lanes_before κs a) (index_behind κs a))
+pub d_refused : RefusedAs d_of_second_call.Post (λ κs x. d.fault_in (answer_in x)) (λ κs a. d_outcomes.Outcome (calls.lanes_before κs a) (calls.index_behind κs a))
+d_refused = of_call_as calls.d_of_second (λ κs found. d.fault_in found) (λ κs a. d_of_second (calls.lanes_before κs a) (calls.index_behind κs a))
 
-pub pb_acceleration_refused : RefusedAs pb_acceleration_call.Post (λ κs x. fault x.refusal x.place) (λ κs a. d_outcomes.Outcome (lanes_before κs a) (index_behind κs a))
-pb_acceleration_refused = of_call from_c.pb_acceleration (λ κs a. through (crossing.acceleration_fault _) (d_of_second (lanes_before κs a) (index_behind κs a)))
+pub pb_acceleration_refused : RefusedAs pb_acceleration_call.Post (λ κs x. fault x.refusal x.place) (λ κs a. d_outcomes.Outcome (from_c.lanes_before κs a) (from_c.index_behind κs a))
+pb_acceleration_refused = of_call from_c.pb_acceleration (λ κs a. through (crossing.acceleration_fault _) (d_of_second (from_c.lanes_before κs a) (from_c.index_behind κs a)))
 
 -- the percentile
-pub percentile_refused : RefusedAs percentile_call.Post (λ κs x. percentiles.fault_in x) (λ κs a. percentile_outcomes.Outcome a.0.now (length a.1.0.now))
-percentile_refused = of_call calls.percentile (λ κs a. ranking a.0.now (length a.1.0.now))
+pub percentile_refused : RefusedAs percentile_call.Post (λ κs x. percentiles.fault_in (answer_in x)) (λ κs a. percentile_outcomes.Outcome a.0.now (length a.1.0.now))
+percentile_refused = of_call_as calls.percentile (λ κs found. percentiles.fault_in found) (λ κs a. ranking a.0.now (length a.1.0.now))
 
 pub pb_percentile_refused : RefusedAs pb_percentile_call.Post (λ κs x. fault x.refusal x.place) (λ κs a. percentile_outcomes.Outcome a.0.now (length a.1.0.now))
 pb_percentile_refused = of_call from_c.pb_percentile (λ κs a. through (crossing.percentile_fault _) (ranking a.0.now (length a.1.0.now)))
 
 -- a trip
-pub trip_refused : TripRefused evaluate_call.Post
+pub trip_refused : TripRefused evaluate_call.Post calls.trip_view
 trip_refused = of_call calls.evaluate (λ κs a. whole_trip a.0 _ _)
 
-pub pb_evaluate_refused : TripRefused pb_evaluate_call.Post
+pub pb_evaluate_refused : TripRefused pb_evaluate_call.Post from_c.trip_view
 pb_evaluate_refused = of_call from_c.pb_evaluate (λ κs a. whole_trip a.0 _ _)
 
 -- ---- a text is answered by 0 exactly when the buffer is too short for it
@@ -140,5 +105,5 @@ report_refused κs a x e p = rw p.0 (fitting.zero_exactly (judged_text a.0) a.1.
 pub report_refusal_refused : TextRefused report_refusal_call.Post (λ κs a. refusal_text a.0 a.1.0) (λ κs a. a.1.1.0.now)
 report_refusal_refused κs a x e p = rw p.0 (fitting.zero_exactly (refusal_text a.0 a.1.0) a.1.1.0.now (texts.refusal_some a.0 a.1.0))
 
-pub write_text_refused : TextRefused write_text_call.Post text_printed print_buffer
-write_text_refused κs a x e p = rw p.0 (fitting.zero_exactly _ _ (printed.text_some a.0 _ _))
+pub write_text_refused : TextRefused write_text_call.Post calls.text_printed calls.print_buffer
+write_text_refused κs a x e p = rw p.0.0 (fitting.zero_exactly _ _ (printed.text_some a.0 _ _))

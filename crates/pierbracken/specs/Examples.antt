@@ -1,5 +1,5 @@
 -- Demand 2: "Examples (a) to (l) are one table and one proof of the definitions." (d) to (f) as change request L2 states them.
-use Rattle.std.specs.Prelude.{ℕ, zero, suc, ◌+◌, ◌≡◌, refl, Bool, true, false, List, [], ◌∷◌, pos, negsuc, length, take, replicate}
+use Rattle.std.specs.Prelude.{ℕ, zero, suc, ◌+◌, ◌≡◌, refl, Bool, true, false, List, [], ◌∷◌, pos, negsuc, Ok, length, take, replicate}
 use Rattle.std.specs.Float.{fin}
 use Rattle.std.specs.Float.Ieee.{of_int, le, lt, eq, mul, round}
 use Rattle.base.specs.declared.Plan.{Plan}
@@ -19,7 +19,6 @@ use Rattle.climb.specs.Climb.{upward, step_up, climb_after, climb_of, steep}
 use Rattle.mass.specs.declared.Reading.{Reading}
 use Rattle.mass.specs.declared.Reading.TheVariants.{DryPpm}
 use Rattle.mass.specs.declared.Setting.{Setting}
-use Rattle.mass.specs.declared.Weighed.TheVariants.{Mass}
 use Rattle.mass.specs.Mass.{reading_in_range, setting_in_range, zero_to, above_zero_to, wet_ppm, last_product, whole_part, mass_answer, co2_mass}
 
 -- "plan 7; 200,000; 140,000; 160,000; 25, 45, 40, 40"
@@ -64,7 +63,7 @@ says (ranks_to last q) = q_of (up_from 1 last) ≡ q
 -- two measured seconds, the second at speed 3,600, from altitude 0 up by a change
 says (change cm climbed) = (climb_of (1 ∷ 1 ∷ []) (0 ∷ 3_600 ∷ []) (pos 0 ∷ pos cm ∷ [])).climb ≡ climbed
 says (too_steep distance climbed is) = steep climbed distance ≡ is
-says (weigh reading setting mg) = co2_mass reading setting ≡ Mass mg
+says (weigh reading setting mg) = co2_mass reading setting ≡ Ok mg
 
 abbrev pub table : List Row
 table =

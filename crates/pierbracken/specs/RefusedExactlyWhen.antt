@@ -1,20 +1,18 @@
 -- Demand 1: every public call refuses bad input by the paper's numbers, in the paper's order: each number exactly when its condition holds and none before it does. The calls themselves have their theorems in `proofs/RefusedExactlyWhen`, in the words of this file; those of the writer stand in `Writing`.
-use Rattle.std.specs.Prelude.{ℕ, ◌<◌, ◌≡◌, false, List, ◌↔◌, length}
+use Rattle.std.specs.Prelude.{ℕ, ℤ, ◌<◌, ◌≡◌, false, List, Option, Result, ◌↔◌, length}
 use Rattle.std.proofs.Common.{sym, ◌∙◌}
 use borrow.Fn.Kinds as contract
-use Rattle.base.specs.Refusal.{fault}
+use Rattle.base.specs.Refusal.{Fault, fault}
 use Rattle.base.specs.declared.Plan.{Plan}
 use Rattle.base.specs.Limits.{co2_most, nox_most}
-use Rattle.base.specs.declared.Fault.{Fault}
+use Rattle.base.specs.declared.refusal.Refusal.{Refusal}
 use Rattle.second.specs.Lanes.{Lanes, room_in}
 use Rattle.mass.specs.declared.Reading.{Reading}
 use Rattle.mass.specs.declared.Setting.{Setting}
-use Rattle.mass.specs.declared.Weighed.{Weighed}
 use Rattle.mass.specs.Mass.{mg_in_a_gram, µg_in_a_gram, co2_mass, nox_mass}
 use Rattle.mass.specs.Outcomes as mass_outcomes
 use Rattle.mass.proofs.Theorems as mass
-use Rattle.item.specs.declared.Front.{Front}
-use Rattle.item.specs.Item.{item_of, refusal_of, length_of}
+use Rattle.item.specs.Item.{Front, item_of, refusal_of, length_of}
 use Rattle.item.specs.Outcomes as item_outcomes
 use Rattle.item.proofs.Refused as item
 use Rattle.stream.specs.declared.ReadAnswer.{ReadAnswer}
@@ -25,54 +23,25 @@ use Rattle.sweep.specs.declared.SweepState.{SweepState}
 use Rattle.sweep.specs.Sweep.{sweep_answer, refused_answer, place_of}
 use Rattle.sweep.specs.Outcomes as sweep_outcomes
 use Rattle.sweep.proofs.Theorems as sweep
-use Rattle.acceleration.specs.declared.Acceleration.{Acceleration}
+use Rattle.sweep.proofs.sweep.Kinds as sweep_kinds
 use Rattle.acceleration.specs.D as d
 use Rattle.acceleration.specs.Outcomes as d_outcomes
 use Rattle.acceleration.proofs.Theorems as acceleration
-use Rattle.percentile.specs.declared.Answer.{Answer}
 use Rattle.percentile.specs.Percentile as percentiles
 use Rattle.percentile.specs.Outcomes as percentile_outcomes
 use Rattle.percentile.proofs.Theorems as percentile
+use Rattle.trip.specs.declared.Evaluated.{Evaluated}
 use Rattle.trip.specs.declared.Rooms.{Rooms}
 use Rattle.trip.specs.Lent.{rooms_in}
 use Rattle.trip.specs.Trip.{answer_of, refused}
 use Rattle.trip.specs.Outcomes as trip_outcomes
 use Rattle.trip.proofs.Refused as trip
 use Rattle.trip.proofs.Theorems as trips
-use Rattle.report.specs.Lines.{judged_text, refusal_text}
-use Rattle.report.proofs.Fitting as fitting
-use Rattle.report.proofs.Theorems as texts
-use Rattle.printed.proofs.Texts as printed
 use Rattle.crossing.specs.Concentration as concentration
 use Rattle.crossing.specs.Items.{front_across, item_answer, no_contents}
 use Rattle.crossing.specs.Accelerations.{acceleration_across, percentile_across}
-use Rattle.crossing.specs.Outcomes as crossing_outcomes
 use Rattle.crossing.proofs.Theorems as crossing
-use Rattle.mass.proofs.co2_mass.Reads as co2_mass_call
-use Rattle.mass.proofs.nox_mass.Reads as nox_mass_call
-use Rattle.item.proofs.read_item.Reads as read_item_call
-use Rattle.stream.proofs.read_stream.Kinds as stream_kinds
-use Rattle.stream.proofs.read_stream.Reads as read_stream_call
-use Rattle.sweep.proofs.sweep.Kinds as sweep_kinds
-use Rattle.sweep.proofs.sweep.Reads as sweep_call
-use Rattle.acceleration.proofs.d_of_second.Reads as d_of_second_call
-use Rattle.percentile.proofs.percentile.Reads as percentile_call
-use Rattle.trip.proofs.evaluate.Kinds as trip_kinds
-use Rattle.trip.proofs.evaluate.Reads as evaluate_call
-use Rattle.report.proofs.report.Reads as report_call
-use Rattle.report.proofs.report_refusal.Reads as report_refusal_call
-use Rattle.printed.proofs.write_text.Reads as write_text_call
-use Rattle.capi.proofs.concentration.pb_mass_co2.Reads as pb_mass_co2_call
-use Rattle.capi.proofs.concentration.pb_mass_nox.Reads as pb_mass_nox_call
-use Rattle.capi.proofs.streams.pb_item.Reads as pb_item_call
-use Rattle.capi.proofs.streams.pb_read.Reads as pb_read_call
-use Rattle.capi.proofs.sweeping.pb_sweep.Reads as pb_sweep_call
-use Rattle.capi.proofs.accelerations.pb_acceleration.Reads as pb_acceleration_call
-use Rattle.capi.proofs.accelerations.pb_percentile.Reads as pb_percentile_call
-use Rattle.capi.proofs.trips.pb_evaluate.Reads as pb_evaluate_call
-use Rattle.pierbracken.specs.Calls.{Answers, stream_lanes, evaluation_lanes, lanes_before, index_behind, trip_in, lent_in, text_printed, print_buffer}
-use Rattle.pierbracken.specs.Calls as calls
-use Rattle.pierbracken.specs.FromC as from_c
+use Rattle.pierbracken.specs.Calls.{Answers, AnswersAs, ReadView, TripView}
 
 -- `Outcome` and `Given`, in the `specs/Outcomes` of each crate, have a constructor for each number of refusal, in the order of the
 -- call, with the conditions of that number; the last one is that of an accepted call. A fault is a number and a place.
@@ -83,11 +52,11 @@ pub through {ℓ} : {A : Type ℓ} {P : A → Type 0} {a b : A} → a ≡ b → 
 through e says x = (λ p. (says x).0 (sym e ∙ p), λ h. e ∙ (says x).1 h)
 
 -- "Mass: 9, then 10"
-pub co2_mass_lem : (reading : Reading) (setting : Setting) (answer : Weighed) → (co2_mass reading setting ≡ answer) ↔ mass_outcomes.Outcome mg_in_a_gram co2_most reading setting answer
+pub co2_mass_lem : (reading : Reading) (setting : Setting) (answer : Result ℕ Refusal) → (co2_mass reading setting ≡ answer) ↔ mass_outcomes.Outcome mg_in_a_gram co2_most reading setting answer
 unfolding co2_mass
 co2_mass_lem reading setting answer = mass.refused_exactly mg_in_a_gram co2_most reading setting answer
 
-pub nox_mass_lem : (reading : Reading) (setting : Setting) (answer : Weighed) → (nox_mass reading setting ≡ answer) ↔ mass_outcomes.Outcome µg_in_a_gram nox_most reading setting answer
+pub nox_mass_lem : (reading : Reading) (setting : Setting) (answer : Result ℕ Refusal) → (nox_mass reading setting ≡ answer) ↔ mass_outcomes.Outcome µg_in_a_gram nox_most reading setting answer
 unfolding nox_mass
 nox_mass_lem reading setting answer = mass.refused_exactly µg_in_a_gram nox_most reading setting answer
 
@@ -143,10 +112,25 @@ pub of_call :
 of_call call {look = look} law =
     record { exactly = λ κs inputs x e p. through (λ i. look κs ((call.means κs inputs x e p).0 i)) (law κs inputs) }
 
+-- and of a call whose refusals are seen by number and place
+pub of_call_as :
+    {Y Left L : Type 0} {In Out Seen Exit : L → Type 0}
+    {asks : (κs : L) → In κs → Type 0}
+    {allows : (κs : L) → In κs → Out κs → Exit κs → Type 0}
+    {seen : (κs : L) → Out κs → Seen κs}
+    {answer : (κs : L) → In κs → Seen κs}
+    {at_exit : (κs : L) → Exit κs → Left}
+    {left : (κs : L) → In κs → Left} →
+    AnswersAs Left asks allows seen answer at_exit left →
+    (look : (κs : L) → Seen κs → Y) {outcome : (κs : L) → In κs → Y → Type 0} →
+    ((κs : L) (inputs : In κs) (y : Y) → (look κs (answer κs inputs) ≡ y) ↔ outcome κs inputs y) → RefusedAs allows (λ κs x. look κs (seen κs x)) outcome
+of_call_as call look law =
+    record { exactly = λ κs inputs x e p. through (λ i. look κs ((call.means κs inputs x e p).0 i)) (law κs inputs) }
+
 -- a whole stream
-abbrev pub StreamRefused : contract.Out stream_lanes stream_kinds.ps stream_kinds.r → Type 0
-StreamRefused allows =
-    RefusedAs allows (λ κs x. x) (λ κs a. stream_outcomes.Outcome (room_in (calls.lanes_to_fill κs a)) a.0.now)
+abbrev pub StreamRefused : {L : Type 0} {In Exit : L → Type 0} → ((κs : L) → In κs → ReadAnswer → Exit κs → Type 0) → ReadView In Exit → Type 0
+StreamRefused allows view =
+    RefusedAs allows (λ κs x. x) (λ κs a. stream_outcomes.Outcome (room_in (view.lanes κs a)) (view.stream κs a))
 
 -- the sweep
 abbrev pub SweepRefused : contract.Out 2 sweep_kinds.ps sweep_kinds.r → Type 0
@@ -154,9 +138,9 @@ SweepRefused allows =
     RefusedAs allows (λ κs x. x.refusal) (λ κs a. sweep_outcomes.Outcome a.0 a.1.0.now (length a.1.1.0.now) a.1.1.1.0)
 
 -- a trip
-abbrev pub TripRefused : contract.Out evaluation_lanes trip_kinds.ps trip_kinds.r → Type 0
-TripRefused allows =
-    RefusedAs allows (λ κs x. fault x.refusal x.place) (λ κs a. trip_outcomes.Given a.0 (trip_in κs a) (rooms_in (lent_in κs a)))
+abbrev pub TripRefused : {L : Type 0} {In Exit : L → Type 0} → ((κs : L) → In κs → Evaluated → Exit κs → Type 0) → TripView In Exit → Type 0
+TripRefused allows view =
+    RefusedAs allows (λ κs x. fault x.refusal x.place) (λ κs a. trip_outcomes.Given (view.plan κs a) (view.trip κs a) (rooms_in (view.lent κs a)))
 
 -- a text is answered by 0 exactly when the buffer is too short for it
 abbrev pub TextRefused : {L : Type 0} {In Exit : L → Type 0} → ((κs : L) → In κs → ℕ → Exit κs → Type 0) → ((κs : L) → In κs → List ℕ) → ((κs : L) → In κs → List ℕ) → Type 0
@@ -181,7 +165,7 @@ trip_zeros = trips.refused_zeros
 
 -- of the structs that cross to C
 pub pb_mass_zeros :
-    (answer : Weighed) → ((concentration.answer_of answer).refusal ≡ 0 → ⊥) →
+    (answer : Result ℕ Refusal) → ((concentration.answer_of answer).refusal ≡ 0 → ⊥) →
     concentration.answer_of answer ≡ record { refusal = (concentration.answer_of answer).refusal; mass = 0; place = 0 }
 pb_mass_zeros = crossing.mass_zeros
 
@@ -189,11 +173,11 @@ pub pb_item_zeros : (byte : ℕ) (front : Front) → (refusal_of front ≡ 0 →
 pb_item_zeros = crossing.item_zeros
 
 pub pb_acceleration_zeros :
-    (answer : Acceleration) → ((d.fault_in answer).number ≡ 0 → ⊥) →
+    (answer : Result (Option ℤ) Fault) → ((d.fault_in answer).number ≡ 0 → ⊥) →
     acceleration_across answer ≡ record { refusal = (d.fault_in answer).number; has_d = false; rise = 0; fall = 0; place = (d.fault_in answer).place }
 pb_acceleration_zeros = crossing.acceleration_zeros
 
 pub pb_percentile_zeros :
-    (answer : Answer) → ((percentiles.fault_in answer).number ≡ 0 → ⊥) →
+    (answer : Result ℕ Fault) → ((percentiles.fault_in answer).number ≡ 0 → ⊥) →
     percentile_across answer ≡ record { refusal = (percentiles.fault_in answer).number; q = 0; place = (percentiles.fault_in answer).place }
 pb_percentile_zeros = crossing.percentile_zeros

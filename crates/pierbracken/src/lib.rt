@@ -8,15 +8,18 @@
 // The release of the meaning of "valid" by which this build answers.
 pub use meaning::RELEASE;
 
-// The plan of a trip, and a refusal's number and place.
-pub use base::{Fault, Plan};
+// The plan of a trip, and a refusal, with its place.
+pub use base::{Plan, Refusal, Refused};
 
 // From concentration to mass: the CO2 of a second in mg, the NOx in µg.
-pub use mass::{Reading, Setting, Weighed, co2_mass, nox_mass};
+pub use mass::{Reading, Setting, co2_mass, nox_mass};
 
 // One item from the front of some bytes.
-pub use item::{Front, Item, read_item};
+pub use item::{Item, read_item};
 pub use second::Row;
+
+// The five lanes of a trip, as they are read, and as they are lent to be filled.
+pub use second::{LentLanes, Trip};
 
 // A whole stream, read into five lent lanes.
 pub use stream::{ReadAnswer, read_stream};
@@ -32,15 +35,15 @@ pub use reader::{Fed, Reader, end, start};
 pub use sweep::{SweepState, Swept, sweep};
 
 // D of one second of a trip.
-pub use acceleration::{Acceleration, d_of_second};
+pub use acceleration::d_of_second;
 
 // Q, the percentile of products in any order, ranked into a lent lane.
-pub use percentile::{Answer, percentile};
+pub use percentile::percentile;
 
-// The whole trip: kept seconds, windows, bins, climb, and the verdict.
+// The whole trip: kept seconds, windows, bins, climb, and the verdict; its workspace is four lent lanes.
 pub use bins::Bin;
 pub use tally::Tally;
-pub use trip::{Evaluated, evaluate};
+pub use trip::{Evaluated, Workspace, evaluate};
 pub use windows::ClassCount;
 
 // The reasons of a verdict: a mask for each, and whether a verdict has one.

@@ -3,16 +3,17 @@
 #![tactic(auto)]
 
 ghost use Rattle.std.specs.Prelude.{◌≡◌, ◌≤◌, length};
-ghost use Rattle.second.specs.Lanes.{lanes_of};
+ghost use Rattle.second.specs.Inside.{lanes_in};
 ghost use Rattle.report.specs.Lines.{length_written, buffer_written, longest_text};
-ghost use Rattle.trip.specs.Trip.{answer_of};
-ghost use Rattle.trip.specs.Lent.{lent_of, rooms_in, lent_left};
+ghost use Rattle.trip.specs.Lent.{rooms_in};
+ghost use Rattle.trip.specs.Inside.{lent_in, SameWork};
 ghost use Rattle.printed.specs.Printed.{first_seconds, class_line_of, lines_of, trip_text, printed_text, lent_after};
 
-use base::{Plan, refusal};
+use base::refusal::ACCEPTED;
 use report::{ClassLine, Judged};
+use second::Trip;
 use stream::ReadAnswer;
-use trip::Evaluated;
+use trip::{Evaluated, Workspace};
 use windows::ClassCount;
 
 // Judges the seconds that were read, which stand at the front of the five lanes, writes what is
@@ -21,96 +22,43 @@ use windows::ClassCount;
 // answer is 0. The four lent lanes need a place per second.
 pub fn write_text(
     read: ReadAnswer,
-    states: &[u8],
-    speeds: &[u16],
-    altitudes: &[i32],
-    co2: &[u32],
-    nox: &[u32],
-    kept_speeds: &mut [u16],
-    kept_co2: &mut [u32],
-    ends: &mut [u16],
-    ranks: &mut [u32],
+    lanes: &Trip<'_>,
+    work: &mut Workspace<'_>,
     buffer: &mut [u8],
 ) -> usize
-    ensures { let lanes = lanes_of states.now speeds.now altitudes.now co2.now nox.now in
-        let lent = lent_of kept_speeds.old kept_co2.old ends.old ranks.old in
-        let text = printed_text read lanes (rooms_in lent) in
-        let left = lent_of kept_speeds.new kept_co2.new ends.new ranks.new in
+    ensures printed { let text = printed_text read (lanes_in lanes.now) (rooms_in (lent_in work.old)) in
         (result ≡ length_written text buffer.old)
         × (buffer.new ≡ buffer_written text buffer.old)
-        × (length text ≤ longest_text)
-        × (left ≡ lent_after read lanes lent) }
+        × (length text ≤ longest_text) }
+    ensures left { lent_in work.new ≡ lent_after read (lanes_in lanes.now) (lent_in work.old) }
+    ensures same { SameWork work.old work.new }
 {
-    let stream_refusal = read.refusal;
-    let stream_place = read.place;
-    let plan = read.plan;
-    let seconds = read.seconds;
-    if stream_refusal != refusal::ACCEPTED {
-        return report::report_refusal(stream_refusal, stream_place, buffer);
+    if read.refusal != ACCEPTED {
+        return report::report_refusal(read.refusal, read.place, buffer);
     }
-    let trip = judge_first(
-        seconds,
-        plan,
-        states,
-        speeds,
-        altitudes,
-        co2,
-        nox,
-        kept_speeds,
-        kept_co2,
-        ends,
-        ranks,
-    );
+    let trip = trip::evaluate(read.plan, &first_seconds(lanes, read.seconds), work);
     write_trip(trip, buffer)
 }
 
-// Evaluates the trip of the first so many seconds in the lanes.
-fn judge_first(
-    seconds: usize,
-    plan: Plan,
-    states: &[u8],
-    speeds: &[u16],
-    altitudes: &[i32],
-    co2: &[u32],
-    nox: &[u32],
-    kept_speeds: &mut [u16],
-    kept_co2: &mut [u32],
-    ends: &mut [u16],
-    ranks: &mut [u32],
-) -> Evaluated
-    ensures { let trip = first_seconds seconds (lanes_of states.now speeds.now altitudes.now co2.now nox.now) in
-        let lent = lent_of kept_speeds.old kept_co2.old ends.old ranks.old in
-        let left = lent_of kept_speeds.new kept_co2.new ends.new ranks.new in
-        (result ≡ answer_of plan trip (rooms_in lent))
-        × (left ≡ lent_left plan trip lent) }
+// The trip of the first so many seconds in the lanes, or of as many as a lane has places for.
+fn first_seconds<'a>(lanes: &Trip<'a>, seconds: usize) -> Trip<'a>
+    ensures { lanes_in result ≡ first_seconds seconds (lanes_in lanes.now) }
 {
-    let in_states = base::least(seconds, states.len());
-    let in_speeds = base::least(seconds, speeds.len());
-    let in_altitudes = base::least(seconds, altitudes.len());
-    let in_co2 = base::least(seconds, co2.len());
-    let in_nox = base::least(seconds, nox.len());
-    trip::evaluate(
-        plan,
-        &states[..in_states],
-        &speeds[..in_speeds],
-        &altitudes[..in_altitudes],
-        &co2[..in_co2],
-        &nox[..in_nox],
-        kept_speeds,
-        kept_co2,
-        ends,
-        ranks,
-    )
+    Trip {
+        states: &lanes.states[..seconds.min(lanes.states.len())],
+        speeds: &lanes.speeds[..seconds.min(lanes.speeds.len())],
+        altitudes: &lanes.altitudes[..seconds.min(lanes.altitudes.len())],
+        co2: &lanes.co2[..seconds.min(lanes.co2.len())],
+        nox: &lanes.nox[..seconds.min(lanes.nox.len())],
+    }
 }
 
 // Writes what is printed of a trip's answer.
 fn write_trip(trip: Evaluated, buffer: &mut [u8]) -> usize
     ensures { (result ≡ length_written (trip_text trip) buffer.old) × (buffer.new ≡ buffer_written (trip_text trip) buffer.old) × (length (trip_text trip) ≤ longest_text) }
 {
-    let trip_refusal = trip.refusal;
-    let trip_place = trip.place;
-    if trip_refusal != refusal::ACCEPTED {
-        return report::report_refusal(trip_refusal, trip_place, buffer);
+    if trip.refusal != ACCEPTED {
+        return report::report_refusal(trip.refusal, trip.place, buffer);
     }
     report::report(lines_of(trip), buffer)
 }
@@ -119,10 +67,7 @@ fn write_trip(trip: Evaluated, buffer: &mut [u8]) -> usize
 fn lines_of(trip: Evaluated) -> Judged
     ensures { result ≡ lines_of trip }
 {
-    let classes = trip.classes;
-    let urban = classes[base::road::URBAN];
-    let rural = classes[base::road::RURAL];
-    let motorway = classes[base::road::MOTORWAY];
+    let [urban, rural, motorway] = trip.classes;
     Judged {
         seconds: trip.seconds as u64,
         missing: trip.missing as u64,

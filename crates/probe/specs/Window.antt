@@ -3,8 +3,7 @@ use Rattle.std.specs.Prelude.{ℕ, Bool, true, false, ◌&&◌, leb}
 use Rattle.base.specs.declared.Plan.{Plan}
 use Rattle.base.specs.Plan.{plan_in_range}
 use Rattle.base.specs.Words.{pick}
-use Rattle.windows.specs.declared.Figure.{Figure}
-use Rattle.windows.specs.Figure.{figure_of}
+use Rattle.windows.specs.Figure.{Figure, figure_of}
 use Rattle.windows.specs.Inside.{window_most}
 use Rattle.probe.specs.declared.WindowProbe.{WindowProbe}
 

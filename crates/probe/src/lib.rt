@@ -7,6 +7,7 @@ ghost use Rattle.lively.specs.Lively.{too_lively, too_dull};
 ghost use Rattle.probe.specs.Window.{window_in_range, window_probe};
 
 use base::Plan;
+use windows::Window;
 
 // Whether a bin is too lively: S, N and Q of any size.
 #[unsafe(no_mangle)]
@@ -25,6 +26,7 @@ pub extern "C" fn probe_too_dull(s: u32, n: u32, t: u64) -> bool
 }
 
 // A window judged.
+// Kept: the C interface: a flag, and the number of a class, beside the rest, as C reads them.
 #[repr(C)]
 #[derive(Clone, Copy)]
 pub struct WindowProbe {
@@ -44,11 +46,12 @@ pub extern "C" fn probe_window(plan: Plan, s: u32, m: u32, n: usize) -> WindowPr
     if !window_in_range(s, m, n) {
         return NOT_JUDGED;
     }
-    let figure = windows::judge(plan, s, m, n);
+    let window = Window { s, m, n };
+    let (class, inside) = windows::counted_as(windows::judge(plan, window));
     WindowProbe {
         judged: true,
-        inside: figure.inside,
-        class: figure.class,
+        inside,
+        class,
     }
 }
 

@@ -9,4 +9,5 @@ pub mod Reaching
 pub mod Reached
 pub mod Whole
 pub mod Testing
+pub mod Settled
 pub mod Ending

@@ -1,19 +1,45 @@
 // Which readers the calls make: specs/Inside.antt says it, test by test, and
 // specs/Reached.antt what it comes to.
 
-ghost use Rattle.std.specs.Prelude.{◌≡◌, ◌≤◌, drop};
+ghost use Rattle.std.specs.Prelude.{◌≡◌, ◌≤◌, true, false, drop, MatchResult};
 ghost use Rattle.base.specs.Limits.{trip_limit};
+ghost use Rattle.base.specs.Refusal.{number_of};
 ghost use Rattle.base.specs.Words.{pick};
 ghost use Rattle.item.specs.Format.{plan_kind, item_length};
 ghost use Rattle.reader.specs.Reader.{plan_before};
 ghost use Rattle.reader.specs.Inside.{is_no_plan, made_before, can_end, made_after, standing_made, all_zero, carry_made, number_before, number_after, settled_made, was_made};
 
 use crate::Reader;
-use base::{Plan, limits, refusal};
+use base::{Plan, Refusal, limits, refusal};
 use item::kind;
 
+// A reader that the calls make.
+#[derive(Clone, Copy)]
+pub struct Made {
+    pub reader: Reader,
+    ghost was_made: { was_made reader ≡ true },
+}
+
+// No other is read on from, or has an end.
+impl TryFrom<Reader> for Made {
+    ghost use Rattle.std.specs.Prelude.{◌≡◌, false, MatchResult};
+    ghost use Rattle.base.specs.declared.refusal.Refusal.TheVariants.{StateNotReached};
+    ghost use Rattle.reader.specs.Inside.{was_made};
+
+    type Error = Refusal;
+
+    ghost try_from_gives = { λ reader result. MatchResult result (λ made. made.reader ≡ reader) (λ refusal. (refusal ≡ StateNotReached) × (was_made reader ≡ false)) };
+
+    fn try_from(reader: Reader) -> Result<Made, Refusal> {
+        if !was_made(reader) {
+            return Err(Refusal::StateNotReached);
+        }
+        Ok(Made { reader })
+    }
+}
+
 // Whether the calls make a reader.
-pub fn was_made(reader: Reader) -> bool
+fn was_made(reader: Reader) -> bool
     ensures { result ≡ was_made reader }
 {
     if !standing_made(reader) {
@@ -49,14 +75,7 @@ fn made_before(reader: Reader) -> bool
 fn is_no_plan(plan: Plan) -> bool
     ensures { result ≡ is_no_plan plan }
 {
-    (plan.reference == 0)
-        & (plan.e1 == 0)
-        & (plan.e2 == 0)
-        & (plan.e3 == 0)
-        & (plan.lower == 0)
-        & (plan.urban == 0)
-        & (plan.rural == 0)
-        & (plan.motorway == 0)
+    plan == stream::NO_PLAN
 }
 
 // Whether the plan, the seconds and the offset go together.
@@ -101,14 +120,7 @@ fn carry_made(reader: Reader) -> bool
 fn all_zero(bytes: &[u8], from: usize) -> bool
     ensures { result ≡ all_zero (drop from bytes.now) }
 {
-    let mut i = from;
-    while i < bytes.len() {
-        if bytes[i] != 0 {
-            return false;
-        }
-        i += 1;
-    }
-    true
+    bytes.iter().skip(from).all(|byte| *byte == 0)
 }
 
 // Whether it holds nothing, and an item can have the number that settled it.
@@ -124,31 +136,23 @@ fn settled_made(reader: Reader) -> bool
 fn number_made(reader: Reader) -> bool
     ensures { result ≡ pick (plan_before reader.at) (number_after reader.refusal reader.seconds) (number_before reader.refusal) }
 {
-    let number = reader.refusal;
-    let seconds = reader.seconds;
-    let at = reader.at;
-    if crate::plan_before(at) {
-        return number_after(number, seconds);
+    let planned = crate::plan_before(reader.at);
+    match Refusal::try_from(reader.refusal) {
+        Ok(refusal) => settles(refusal, planned, reader.seconds),
+        Err(()) => false,
     }
-    number_before(number)
 }
 
-// Whether an item can have this number before the plan was read.
-fn number_before(number: u8) -> bool
-    ensures { result ≡ number_before number }
+// Whether an item can be refused so, before the plan was read or after it and some seconds.
+fn settles(refusal: Refusal, planned: bool, seconds: usize) -> bool
+    ensures { result ≡ pick planned (number_after (number_of refusal) seconds) (number_before (number_of refusal)) }
 {
-    (number == refusal::UNKNOWN_KIND)
-        | (number == refusal::PLAN_MISPLACED)
-        | (number == refusal::PLAN_OUT_OF_RANGE)
-}
-
-// Whether an item can have this number after the plan and some seconds.
-fn number_after(number: u8, seconds: usize) -> bool
-    ensures { result ≡ number_after number seconds }
-{
-    (number == refusal::UNKNOWN_KIND)
-        | (number == refusal::PLAN_MISPLACED)
-        | (number == refusal::OUT_OF_RANGE)
-        | ((number == refusal::TOO_MANY) & (limits::TRIP <= seconds))
-        | ((number == refusal::LANE_TOO_SHORT) & (seconds < limits::TRIP))
+    match refusal {
+        Refusal::UnknownKind | Refusal::PlanMisplaced => true,
+        Refusal::PlanOutOfRange => !planned,
+        Refusal::OutOfRange => planned,
+        Refusal::TooMany => planned & (limits::TRIP <= seconds),
+        Refusal::LaneTooShort => planned & (seconds < limits::TRIP),
+        _ => false,
+    }
 }

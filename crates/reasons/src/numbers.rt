@@ -4,9 +4,9 @@
 pub const PERCENT: u64 = 100;
 
 // 0: n, all seconds.
-pub const TRIP_LEAST: u64 = 5_400;
+pub const TRIP_LEAST: u32 = 5_400;
 
-pub const TRIP_MOST: u64 = 7_200;
+pub const TRIP_MOST: u32 = 7_200;
 
 // 1: how many times the missing seconds are below n, and the most of them in a row.
 pub const MISSING_TIMES: u64 = 100;

@@ -5,9 +5,12 @@
 ghost use Rattle.std.specs.Prelude.{◌≡◌, ◌+◌, ◌*◌, ◌≤◌, leb, length};
 ghost use Rattle.text.specs.Text.{decimal};
 ghost use Rattle.report.specs.Lines.{count_lines, class_lines, reasons_line, judged_text, refusal_text, length_written, buffer_written};
-ghost use Rattle.text.specs.Inside.{word_digits, Wrote};
+ghost use Rattle.text.specs.Inside.{word_digits, Fits, Writes};
+
+use text::{Writing, digit_count};
 
 // A class line: the windows of a class, and those of them that are inside.
+// Kept: no plainer: `windows::ClassCount` has the counts of a trip, in fewer bits, and report stands on no crate of trips.
 #[derive(Clone, Copy)]
 pub struct ClassLine {
     pub windows: u64,
@@ -36,24 +39,27 @@ pub const LONGEST_TEXT: usize = 300;
 pub fn report(trip: Judged, buffer: &mut [u8]) -> usize
     ensures { (result ≡ length_written (judged_text trip) buffer.old) × (buffer.new ≡ buffer_written (judged_text trip) buffer.old) }
 {
-    if judged_fits(trip, buffer.len()) {
-        put_judged(buffer, 0, trip)
-    } else {
-        0
+    if !trip.fits(buffer.len()) {
+        return 0;
     }
+    let mut writing = Writing { buffer, at: 0 };
+    trip.put(&mut writing);
+    writing.at
 }
 
 // Writes the one line of a refusal, as `report` does the six.
+// Kept: the C interface: the number, which crosses in the answers that hold it.
 pub fn report_refusal(number: u8, place: usize, buffer: &mut [u8]) -> usize
     ensures { (result ≡ length_written (refusal_text number place) buffer.old) × (buffer.new ≡ buffer_written (refusal_text number place) buffer.old) }
 {
     let number = number as u64;
     let place = place as u64;
-    if REFUSAL_WORDS + text::digit_count(number) + text::digit_count(place) <= buffer.len() {
-        text::put_line(buffer, 0, b"refused ", number, b" at ", place)
-    } else {
-        0
+    if buffer.len() < REFUSAL_WORDS + digit_count(number) + digit_count(place) {
+        return 0;
     }
+    let mut writing = Writing { buffer, at: 0 };
+    writing.put_line(b"refused ", number, b" at ", place);
+    writing.at
 }
 
 // The bytes of the six lines besides their decimal digits.
@@ -62,96 +68,80 @@ const JUDGED_WORDS: usize = 80;
 // The bytes of a refusal's line besides its decimal digits.
 const REFUSAL_WORDS: usize = 13;
 
-// Whether the six lines fit a buffer of that length. Only a short one has the digits counted.
-fn judged_fits(trip: Judged, room: usize) -> bool
-    ensures { result ≡ leb (length (judged_text trip)) room }
-{
-    if LONGEST_TEXT <= room {
-        return true;
+impl ClassLine {
+    // How many decimal digits its line has.
+    fn digits(self) -> usize
+        ensures { (result ≡ length (decimal self.windows) + length (decimal self.inside)) × (result ≤ 2 * word_digits) }
+    {
+        digit_count(self.windows) + digit_count(self.inside)
     }
-    judged_length(trip) <= room
 }
 
-// The length of the six lines.
-fn judged_length(trip: Judged) -> usize
-    ensures { result ≡ length (judged_text trip) }
-{
-    let urban = trip.urban;
-    let rural = trip.rural;
-    let motorway = trip.motorway;
-    JUDGED_WORDS
-        + text::digit_count(trip.seconds)
-        + text::digit_count(trip.missing)
-        + text::digit_count(trip.kept)
-        + text::digit_count(trip.windows)
-        + text::digit_count(trip.moves)
-        + class_digits(urban)
-        + class_digits(rural)
-        + class_digits(motorway)
-}
+impl Judged {
+    // Whether the six lines fit a buffer of that length. Only a short one has the digits counted.
+    fn fits(self, room: usize) -> bool
+        ensures { result ≡ leb (length (judged_text self)) room }
+    {
+        LONGEST_TEXT <= room || self.length() <= room
+    }
 
-// How many decimal digits a class line has.
-fn class_digits(class: ClassLine) -> usize
-    ensures { (result ≡ length (decimal class.windows) + length (decimal class.inside)) × (result ≤ 2 * word_digits) }
-{
-    text::digit_count(class.windows) + text::digit_count(class.inside)
-}
+    // The length of the six lines.
+    fn length(self) -> usize
+        ensures { result ≡ length (judged_text self) }
+    {
+        JUDGED_WORDS
+            + digit_count(self.seconds)
+            + digit_count(self.missing)
+            + digit_count(self.kept)
+            + digit_count(self.windows)
+            + digit_count(self.moves)
+            + self.urban.digits()
+            + self.rural.digits()
+            + self.motorway.digits()
+    }
 
-// Each step below writes its text from place `at` on and answers the place behind it. The caller
-// has seen to it that the text fits.
+    // The six lines, which the caller has seen to fit, as for each step below.
+    fn put(self, writing: &mut Writing<'_>)
+        requires { Fits writing.old (judged_text self) }
+        ensures { Writes writing.old (judged_text self) writing.new }
+    {
+        self.put_counts(writing);
+        self.put_classes(writing);
+        self.put_reasons(writing);
+    }
 
-// The six lines.
-fn put_judged(buffer: &mut [u8], at: usize, trip: Judged) -> usize
-    requires { at + length (judged_text trip) ≤ length buffer.old }
-    ensures { Wrote buffer.old at (judged_text trip) buffer.new result }
-{
-    let reasons = trip.reasons;
-    let at = put_count_lines(buffer, at, trip);
-    let at = put_class_lines(buffer, at, trip);
-    put_reasons_line(buffer, at, reasons)
-}
+    // Lines 1 and 2.
+    fn put_counts(self, writing: &mut Writing<'_>)
+        requires { Fits writing.old (count_lines self) }
+        ensures { Writes writing.old (count_lines self) writing.new }
+    {
+        writing.put_named(b"seconds ", self.seconds);
+        writing.put_line(b" missing ", self.missing, b" kept ", self.kept);
+        writing.put_line(b"windows ", self.windows, b" moves ", self.moves);
+    }
 
-// Lines 1 and 2.
-fn put_count_lines(buffer: &mut [u8], at: usize, trip: Judged) -> usize
-    requires { at + length (count_lines trip) ≤ length buffer.old }
-    ensures { Wrote buffer.old at (count_lines trip) buffer.new result }
-{
-    let seconds = trip.seconds;
-    let missing = trip.missing;
-    let kept = trip.kept;
-    let windows = trip.windows;
-    let moves = trip.moves;
-    let at = text::put_named(buffer, at, b"seconds ", seconds);
-    let at = text::put_line(buffer, at, b" missing ", missing, b" kept ", kept);
-    text::put_line(buffer, at, b"windows ", windows, b" moves ", moves)
-}
+    // The class lines.
+    fn put_classes(self, writing: &mut Writing<'_>)
+        requires { Fits writing.old (class_lines self) }
+        ensures { Writes writing.old (class_lines self) writing.new }
+    {
+        writing.put_line(b"urban ", self.urban.windows, b" ", self.urban.inside);
+        writing.put_line(b"rural ", self.rural.windows, b" ", self.rural.inside);
+        writing.put_line(
+            b"motorway ",
+            self.motorway.windows,
+            b" ",
+            self.motorway.inside,
+        );
+    }
 
-// The class lines.
-fn put_class_lines(buffer: &mut [u8], at: usize, trip: Judged) -> usize
-    requires { at + length (class_lines trip) ≤ length buffer.old }
-    ensures { Wrote buffer.old at (class_lines trip) buffer.new result }
-{
-    let urban = trip.urban;
-    let rural = trip.rural;
-    let motorway = trip.motorway;
-    let at = text::put_line(buffer, at, b"urban ", urban.windows, b" ", urban.inside);
-    let at = text::put_line(buffer, at, b"rural ", rural.windows, b" ", rural.inside);
-    text::put_line(
-        buffer,
-        at,
-        b"motorway ",
-        motorway.windows,
-        b" ",
-        motorway.inside,
-    )
-}
-
-// The line of the reasons.
-fn put_reasons_line(buffer: &mut [u8], at: usize, reasons: u16) -> usize
-    requires { at + length (reasons_line reasons) ≤ length buffer.old }
-    ensures { Wrote buffer.old at (reasons_line reasons) buffer.new result }
-{
-    let digits = text::put_words(buffer, at, b"reasons ");
-    let end = text::put_hex(buffer, digits, reasons);
-    text::put_words(buffer, end, b"\n")
+    // The line of the reasons.
+    fn put_reasons(self, writing: &mut Writing<'_>)
+        requires { Fits writing.old (reasons_line self.reasons) }
+        ensures { Writes writing.old (reasons_line self.reasons) writing.new }
+    {
+        writing.put_words(b"reasons ");
+        writing.put_hex(self.reasons);
+        writing.put_words(b"\n");
+    }
 }

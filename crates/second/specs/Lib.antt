@@ -3,3 +3,4 @@ pub mod Row
 pub mod Bins
 pub mod Lanes
 pub mod Facts
+pub mod Inside

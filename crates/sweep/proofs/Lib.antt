@@ -4,6 +4,7 @@ pub mod Moves
 pub mod Reached
 pub mod Local
 pub mod Refusals
+pub mod Lists
 pub mod Windows
 pub mod Finished
 pub mod Theorems

@@ -1,6 +1,6 @@
 -- The refusals of the sweep, case by case in their order, and what an accepted call may take for granted. Assumes nothing.
 use Prim.Native.Nat.{ℕ, ◌+◌, ◌*◌, ◌≤◌, ◌<◌}
-use mathlib.Core.Path.{◌≡◌, refl}
+use mathlib.Core.Path.{◌≡◌, refl, sym, ◌∙◌, ap}
 use mathlib.Core.Bool.{Bool, true, false, not, ◌&&◌, and-false, and-eq-true_iff}
 use mathlib.Core.List.{List}
 use native.Mathlib.Nat.{le_refl}
@@ -11,15 +11,17 @@ use borrow.Author.Tests.{lt-ltb, le-ltb, le-leb, lt-leb, leb-true, ltb-true, ltb
 use Rattle.base.specs.Limits.{trip_limit, co2_most, reference_most}
 use Rattle.base.specs.Plan.{reference_in_range}
 use Rattle.base.specs.Second.{too_many, co2_in_range}
-use Rattle.base.specs.Refusal.{accepted, plan_out_of_range, too_many_values, lane_too_short, out_of_range, state_not_reached}
+use Rattle.base.specs.declared.refusal.Refused.{Refused}
+use Rattle.base.specs.Refusal.{Fault, number_of, fault_of, fault, accepted, plan_out_of_range, too_many_values, lane_too_short, out_of_range, state_not_reached}
 use Rattle.base.specs.Words.{pick, first_bad}
 use Rattle.base.proofs.FirstBad.{IsFirstBad, first_bad_lem}
 use Rattle.base.proofs.Products.{product_at_most}
 use Rattle.base.proofs.Sums.{sum_bound}
+use Rattle.base.proofs.Numbers.{not_accepted}
 use Rattle.sweep.specs.declared.SweepState.{SweepState}
-use Rattle.sweep.specs.Sweep.{ends_after, is_reached, first_out_of_range, sweep_refusal, run_answer, refused_answer, sweep_answer, sweep_ends}
+use Rattle.sweep.specs.Sweep.{beginning, ends_after, is_reached, first_out_of_range, place_of, sweep_refusal, run_answer, refused_answer, sweep_answer, sweep_ends}
 use Rattle.sweep.specs.Outcomes.{Accepted, Outcome, bad_reference, if_too_many, if_too_short, bad_mass, never_reached, fine}
-use Rattle.sweep.specs.Inside.{Measured, Ready}
+use Rattle.sweep.specs.Inside.{Measured, Ready, refused_with}
 use Rattle.sweep.proofs.Reached.{reached_stands}
 
 -- the first bad index is not passed by i + 1 exactly where it is not passed by i and i is good
@@ -89,6 +91,10 @@ module _ (reference : ℕ) (co2 : List ℕ) (room : ℕ) (s : SweepState) where
   gives (fine ok) =
       rw (ok.reference_is_in_range, le-ltb trip_limit (length co2) ok.few, le-ltb room (length co2) ok.places, le-ltb (first_out_of_range co2) (length co2) ok.in_range, ok.reached)
 
+  -- and with its number its place
+  pub faulted : {refusal : ℕ} → Outcome reference co2 room s refusal → fault (sweep_refusal reference co2 room s) (place_of co2 (sweep_refusal reference co2 room s)) ≡ fault refusal (place_of co2 refusal)
+  faulted what = ap (λ (refusal : ℕ). fault refusal (place_of co2 refusal)) (gives what)
+
   -- a call with number 0 passed every test
   pub passed : sweep_refusal reference co2 room s ≡ accepted → Accepted reference co2 room s
   passed zero_number = go (sweep_refusal reference co2 room s) outcome zero_number
@@ -126,3 +132,12 @@ module _ (reference : ℕ) (co2 : List ℕ) (ends : List ℕ) (s : SweepState) w
   pub accepted_ends : (budget : ℕ) → sweep_refusal reference co2 (length ends) s ≡ accepted → sweep_ends reference co2 ends s budget ≡ ends_after reference co2 budget s ends
   unfolding sweep_ends
   accepted_ends budget h = rw (eq-eqb (sweep_refusal reference co2 (length ends) s) accepted h)
+
+-- what the code answers where it refuses a call is what the call answers, and its lane is as it was
+pub refused_is : (reference : ℕ) (co2 ends : List ℕ) (s : SweepState) (budget : ℕ) (refused : Refused) → fault_of refused ≡ fault (sweep_refusal reference co2 (length ends) s) (place_of co2 (sweep_refusal reference co2 (length ends) s)) → (refused_with refused ≡ sweep_answer reference co2 (length ends) s budget) × (ends ≡ sweep_ends reference co2 ends s budget)
+refused_is reference co2 ends s budget refused e =
+    let refusal = sweep_refusal reference co2 (length ends) s in
+    let number : number_of refused.refusal ≡ sweep_refusal reference co2 (length ends) s = ap (λ (f : Fault). f.number) e in
+    let bad : sweep_refusal reference co2 (length ends) s ≡ accepted → ⊥ = λ z. eqb-false _ _ (not_accepted refused.refusal) (number ∙ z) in
+    let answer : refused_with refused ≡ refused_answer co2 refusal = ap (λ (f : Fault). record { refusal = f.number; place = f.place; state = beginning; moves = 0; over = false }) e in
+    (answer ∙ sym (refused_answer_lem reference co2 (length ends) s budget bad), sym (refused_ends reference co2 ends s budget bad))

@@ -1,7 +1,11 @@
 -- What the steps inside the sweep may take for granted, once the call is accepted.
-use Rattle.std.specs.Prelude.{ℕ, ◌+◌, ◌-◌, ◌^◌, ◌≤◌, ◌<◌, Bool, ◌||◌, List, leb, ltb, eqb, length, get_or}
+use Rattle.std.specs.Prelude.{ℕ, ◌+◌, ◌-◌, ◌^◌, ◌≤◌, ◌<◌, Bool, false, ◌||◌, List, leb, ltb, eqb, length, get_or}
+use Rattle.base.specs.declared.refusal.Refused.{Refused}
+use Rattle.base.specs.Refusal.{number_of}
 use Rattle.base.specs.Words.{sum}
 use Rattle.sweep.specs.declared.SweepState.{SweepState}
+use Rattle.sweep.specs.declared.Swept.{Swept}
+use Rattle.sweep.specs.Sweep.{beginning}
 use Rattle.sweep.specs.Runs.{Standing}
 
 -- kept masses whose numbers fit a u16 and whose sum fits a u32
@@ -22,3 +26,8 @@ closed_rightly reference co2 dropped mass = eqb dropped 0 || leb reference (mass
 
 abbrev pub needed_last : ℕ → List ℕ → ℕ → ℕ → Bool
 needed_last reference co2 taken mass = eqb taken 0 || ltb mass (reference + get_or co2 (taken - 1) 0)
+
+-- the answer of a refusal as the code holds it: its number and place, and zeros
+abbrev pub refused_with : Refused → Swept
+refused_with refused =
+    record { refusal = number_of refused.refusal; place = refused.place; state = beginning; moves = 0; over = false }

@@ -14,6 +14,7 @@ use Rattle.tally.specs.Facts.{Gap}
 use Rattle.tally.specs.Sets.{is_missing}
 use Rattle.tally.specs.Counts.{gap_after, longest_gap}
 use Rattle.tally.specs.Inside.{gap_with}
+use Rattle.tally.proofs.Seconds.{gap_none}
 
 -- a gap of more than k missing seconds that ends the first so many seconds
 record LongAt (states : List ℕ) (n k : ℕ) : Type 0 where
@@ -41,10 +42,6 @@ module _ (states : List ℕ) where
   pub gap_at_most : (i : ℕ) → gap_after states i ≤ i
   gap_at_most i = (gap_missing i).0
 
-  gap_none : gap_after states 0 ≡ 0
-  unfolding gap_after after_first
-  gap_none = refl
-
   gap_step : (i : ℕ) → gap_after states (suc i) ≡ gap_with (gap_after states i) (get_or states i 0)
   unfolding gap_after after_first
   gap_step i = refl
@@ -66,7 +63,7 @@ module _ (states : List ℕ) where
 
   -- the longest gap is as long as each
   longest_at_least : (i n : ℕ) → i ≤ n → gap_after states i ≤ longest_gap states n
-  longest_at_least zero zero h = rw gap_none (omega arith)
+  longest_at_least zero zero h = rw (gap_none states) (omega arith)
   longest_at_least (suc i) zero h = absurd (omega (arith, h))
   longest_at_least i (suc n) h = go (ltb n i) refl (longest_at_least i n)
     where

@@ -21,16 +21,6 @@ use Rattle.tally.specs.Tally.{mass_of, no_seconds, tally_over, whole_tally}
 use Rattle.tally.specs.Inside.{bin_tallies_after, bin_tallies, with_second, added, Room}
 use Rattle.base.proofs.SumOver.{sum_over_more, sum_over_at_most, how_many_at_most, how_many_both, sum_over_parts}
 
--- a bin is one of three
-pub bin-below : (speed : ℕ) → bin_of speed < 3
-unfolding bin_of
-bin-below speed = go (leb speed 6_000) (leb speed 9_000)
-  where
-    go : (low middle : Bool) → pick low urban (pick middle rural motorway) < 3
-    go true middle = omega arith
-    go false true = omega arith
-    go false false = omega arith
-
 -- a second that has values is in one bin
 one_bin : (present : Bool) (speed v : ℕ) → pick (present && eqb (bin_of speed) urban) v 0 + pick (present && eqb (bin_of speed) rural) v 0 + pick (present && eqb (bin_of speed) motorway) v 0 ≡ pick present v 0
 unfolding bin_of
@@ -99,15 +89,19 @@ module _ (states speeds co2 nox : List ℕ) where
       rw (bin_more states speeds co2 nox i urban, bin_more states speeds co2 nox i rural, bin_more states speeds co2 nox i motorway)
       (put (with_this states speeds co2 nox i) _ _ _ (get_or speeds i 0))
 
-  -- "Those four add up over the bins to the trip's"
-  pub bins_add_up : added (bin_tallies states speeds co2 nox) ≡ whole_tally states speeds co2 nox
+  -- the tallies of the bins add up, of the first n seconds
+  first_add_up : (n : ℕ) → added (bin_tallies_after states speeds co2 nox n) ≡ tally_over states speeds co2 nox (is_present states) n
   unfolding added bin_tallies_after tally_over
-  bins_add_up = λ k. record { seconds = sums (λ i. 1) k; distance = sums (λ i. get_or speeds i 0) k; co2 = sums (λ i. mass_of (get_or states i 0) (get_or co2 i 0)) k; nox = sums (λ i. mass_of (get_or states i 0) (get_or nox i 0)) k }
+  first_add_up n = λ k. record { seconds = sums (λ i. 1) k; distance = sums (λ i. get_or speeds i 0) k; co2 = sums (λ i. mass_of (get_or states i 0) (get_or co2 i 0)) k; nox = sums (λ i. mass_of (get_or states i 0) (get_or nox i 0)) k }
     where
-      sums : (value : ℕ → ℕ) → sum_over (is_in_bin states speeds urban) value (length states) + sum_over (is_in_bin states speeds rural) value (length states) + sum_over (is_in_bin states speeds motorway) value (length states) ≡ sum_over (is_present states) value (length states)
+      sums : (value : ℕ → ℕ) → sum_over (is_in_bin states speeds urban) value n + sum_over (is_in_bin states speeds rural) value n + sum_over (is_in_bin states speeds motorway) value n ≡ sum_over (is_present states) value n
       sums value =
           sum_over_parts (is_present states) (is_in_bin states speeds urban) (is_in_bin states speeds rural) (is_in_bin states speeds motorway) value
-          (λ i v. one_bin (has_values (get_or states i 0)) (get_or speeds i 0) v) (length states)
+          (λ i v. one_bin (has_values (get_or states i 0)) (get_or speeds i 0) v) n
+
+  -- "Those four add up over the bins to the trip's"
+  pub bins_add_up : added (bin_tallies states speeds co2 nox) ≡ whole_tally states speeds co2 nox
+  bins_add_up = first_add_up (length states)
 
   -- "their seconds to n less the missing": where each state is known
   pub seconds_add_up : ((i : ℕ) → i < length states → state_known (get_or states i 0) ≡ true) → (whole_tally states speeds co2 nox).seconds + how_many (is_missing states) (length states) ≡ length states
@@ -128,6 +122,10 @@ module _ (states speeds co2 nox : List ℕ) where
           co2 = omega (arith, sum_over_at_most in_set _ (2 ^ 32) (λ k. mass_below (get_or states k 0) (get_or co2 k 0) (small_co2 k)) i);
           nox = omega (arith, sum_over_at_most in_set _ (2 ^ 32) (λ k. mass_below (get_or states k 0) (get_or nox k 0) (small_nox k)) i);
         }
+
+    -- and so does the trip's
+    pub total_room : (n : ℕ) → n ≤ trip_limit → Room (added (bin_tallies_after states speeds co2 nox n))
+    total_room n few = rw first_add_up (tally_room (is_present states) n few)
 
     pub bin_room : (i speed : ℕ) → i ≤ trip_limit → Room (get_or (bin_tallies_after states speeds co2 nox i) (bin_of speed) no_seconds)
     unfolding bin_tallies_after bin_of

@@ -2,15 +2,16 @@
 // reasons ask for. Each figure is one definition in specs/, a sum over a set of seconds.
 #![tactic(auto)]
 
-ghost use Rattle.std.specs.Prelude.{◌≡◌, ◌+◌, ◌^◌, ◌<◌, max};
-ghost use Rattle.base.specs.Words.{pick};
+ghost use Rattle.std.specs.Prelude.{◌≡◌, ◌^◌, ◌<◌};
 ghost use Rattle.tally.specs.Tally.{mass_of};
 ghost use Rattle.tally.specs.Counts.{counts_of};
 ghost use Rattle.tally.specs.Inside.{TallyLanes, Room, with_second, bin_tallies, added, CountLanes, Few, gap_with, counts_with};
 
+use second::Trip;
+
 // Seconds taken together: one for each bin, and one for the trip.
 #[repr(C)]
-#[derive(Clone, Copy)]
+#[derive(Clone, Copy, Default)]
 pub struct Tally {
     pub seconds: u32,
     pub distance: u32, // the sum of the speeds, 0.01 km/h: one km is 360,000
@@ -19,7 +20,7 @@ pub struct Tally {
 }
 
 // What the reasons ask of states and speeds.
-#[derive(Clone, Copy)]
+#[derive(Clone, Copy, Default)]
 pub struct Counts {
     pub missing: u32,
     pub gap: u32, // the most missing seconds in a row
@@ -39,66 +40,66 @@ const FASTER_ABOVE: u16 = 14_500;
 const FASTEST_ABOVE: u16 = 16_000;
 
 // The tallies of the bins urban, rural, motorway.
-pub fn tally_bins(states: &[u8], speeds: &[u16], co2: &[u32], nox: &[u32]) -> [Tally; 3]
-    requires { TallyLanes states.now speeds.now co2.now nox.now }
-    ensures { result ≡ bin_tallies states.now speeds.now co2.now nox.now }
+pub fn tally_bins(trip: &Trip<'_>) -> [Tally; 3]
+    requires { TallyLanes trip.now.states.now trip.now.speeds.now trip.now.co2.now trip.now.nox.now }
+    ensures value { result ≡ bin_tallies trip.now.states.now trip.now.speeds.now trip.now.co2.now trip.now.nox.now }
+    ensures room { Room (added result) }
 {
-    let mut bins = [Tally {
-        seconds: 0,
-        distance: 0,
-        co2: 0,
-        nox: 0,
-    }; 3];
-    let mut i = 0;
-    while i < states.len() {
-        let speed = speeds[i];
-        let bin = second::bin_of(speed);
-        let before = bins[bin];
-        bins[bin] = with_second(before, states[i], speed, co2[i], nox[i]);
-        i += 1;
+    let Trip {
+        states,
+        speeds,
+        co2,
+        nox,
+        ..
+    } = *trip;
+    let mut bins = [Tally::default(); 3];
+    for i in 0..states.len() {
+        let bin = second::road_of(speeds[i]).index();
+        bins[bin] = bins[bin].with_second(states[i], speeds[i], co2[i], nox[i]);
     }
     bins
 }
 
-// A bin's tally with one more second, in this state and with these values. A missing second adds
-// nothing, and only a measured one adds masses.
-fn with_second(before: Tally, state: u8, speed: u16, co2: u32, nox: u32) -> Tally
-    requires { Room before }
-    ensures { result ≡ with_second before state speed co2 nox }
-{
-    let seconds = before.seconds;
-    let distance = before.distance;
-    let co2_before = before.co2;
-    let nox_before = before.nox;
-    if !second::has_values(state) {
-        return before;
-    }
-    Tally {
-        seconds: seconds + 1,
-        distance: distance + speed as u32,
-        co2: co2_before + mass_of(state, co2) as u64,
-        nox: nox_before + mass_of(state, nox) as u64,
+impl Tally {
+    // This tally with one more second, in this state and with these values. A missing second adds
+    // nothing, and only a measured one adds masses.
+    // Kept: the C interface: a state is a byte of a lane, and any byte has an answer.
+    #[tactic(auto, unfolding(crate::specs::Inside::with_second))]
+    fn with_second(self, state: u8, speed: u16, co2: u32, nox: u32) -> Tally
+        requires { Room self }
+        ensures { result ≡ with_second self state speed co2 nox }
+    {
+        if !second::has_values(state) {
+            return self;
+        }
+        Tally {
+            seconds: self.seconds + 1,
+            distance: self.distance + u32::from(speed),
+            co2: self.co2 + u64::from(mass_of(state, co2)),
+            nox: self.nox + u64::from(mass_of(state, nox)),
+        }
     }
 }
 
 // The mass of a second in this state, as it counts: a check second's masses do not.
+// Kept: the C interface: a state is a byte of a lane, and any byte has an answer.
 fn mass_of(state: u8, mass: u32) -> u32
-    ensures { (result ≡ mass_of state mass) × (result < 2 ^ 32) }
+    ensures { result ≡ mass_of state mass }
 {
     if state == base::state::MEASURED {
-        return mass;
+        mass
+    } else {
+        0
     }
-    0
 }
 
 // The tallies of the bins added up: the tally of the trip.
+#[tactic(auto, unfolding(crate::specs::Inside::added))]
 pub fn total(bins: [Tally; 3]) -> Tally
     requires { Room (added bins) }
     ensures { result ≡ added bins }
 {
-    let urban = bins[base::road::URBAN];
-    let rural = bins[base::road::RURAL];
-    let motorway = bins[base::road::MOTORWAY];
+    let [urban, rural, motorway] = bins;
     Tally {
         seconds: urban.seconds + rural.seconds + motorway.seconds,
         distance: urban.distance + rural.distance + motorway.distance,
@@ -108,79 +109,50 @@ pub fn total(bins: [Tally; 3]) -> Tally
 }
 
 // The counts of states and speeds.
-pub fn count_seconds(states: &[u8], speeds: &[u16]) -> Counts
-    requires { CountLanes states.now speeds.now }
-    ensures { result ≡ counts_of states.now speeds.now }
+pub fn count_seconds(trip: &Trip<'_>) -> Counts
+    requires { CountLanes trip.now.states.now trip.now.speeds.now }
+    ensures { result ≡ counts_of trip.now.states.now trip.now.speeds.now }
 {
-    let mut counts = Counts {
-        missing: 0,
-        gap: 0,
-        slow: 0,
-        fast: 0,
-        faster: 0,
-        fastest: 0,
-    };
-    let mut gap: u32 = 0;
-    let mut i = 0;
-    while i < states.len() {
-        let state = states[i];
+    let mut counts = Counts::default();
+    let mut gap = 0;
+    for i in 0..trip.seconds() {
+        let state = trip.states[i];
         gap = gap_with(gap, state);
-        counts = counts_with(counts, gap, state, speeds[i]);
-        i += 1;
+        counts = counts.with(gap, state, trip.speeds[i]);
     }
     counts
 }
 
 // The missing seconds in a row that end with a second in this state.
+// Kept: the C interface: a state is a byte of a lane, and any byte has an answer.
 fn gap_with(gap: u32, state: u8) -> u32
     requires { gap < 2 ^ 16 }
     ensures { result ≡ gap_with gap state }
 {
     if state == base::state::MISSING {
-        return gap + 1;
-    }
-    0
-}
-
-// The counts with one more second, in this state and with this speed, where so many missing seconds
-// in a row end with it.
-fn counts_with(before: Counts, gap: u32, state: u8, speed: u16) -> Counts
-    requires { Few before }
-    ensures { result ≡ counts_with before gap state speed }
-{
-    let present = second::has_values(state);
-    let missing = before.missing;
-    let slow = before.slow;
-    let fast = before.fast;
-    let faster = before.faster;
-    let fastest = before.fastest;
-    Counts {
-        missing: one_more_if(state == base::state::MISSING, missing),
-        gap: larger_of(before.gap, gap),
-        slow: one_more_if(present & (speed < SLOW_BELOW), slow),
-        fast: one_more_if(present & (FAST_ABOVE < speed), fast),
-        faster: one_more_if(present & (FASTER_ABOVE < speed), faster),
-        fastest: one_more_if(present & (FASTEST_ABOVE < speed), fastest),
+        gap + 1
+    } else {
+        0
     }
 }
 
-// A count with one more where a test holds.
-fn one_more_if(test: bool, count: u32) -> u32
-    requires { count < 2 ^ 16 }
-    ensures { result ≡ count + pick test 1 0 }
-{
-    if test {
-        return count + 1;
+impl Counts {
+    // These counts with one more second, in this state and with this speed, where so many missing
+    // seconds in a row end with it.
+    // Kept: the C interface: a state is a byte of a lane, and any byte has an answer.
+    #[tactic(auto, unfolding(crate::specs::Inside::counts_with))]
+    fn with(self, gap: u32, state: u8, speed: u16) -> Counts
+        requires { Few self }
+        ensures { result ≡ counts_with self gap state speed }
+    {
+        let present = second::has_values(state);
+        Counts {
+            missing: self.missing + u32::from(state == base::state::MISSING),
+            gap: self.gap.max(gap),
+            slow: self.slow + u32::from(present & (speed < SLOW_BELOW)),
+            fast: self.fast + u32::from(present & (FAST_ABOVE < speed)),
+            faster: self.faster + u32::from(present & (FASTER_ABOVE < speed)),
+            fastest: self.fastest + u32::from(present & (FASTEST_ABOVE < speed)),
+        }
     }
-    count
-}
-
-// The larger of two numbers.
-fn larger_of(a: u32, b: u32) -> u32
-    ensures { result ≡ max a b }
-{
-    if a < b {
-        return b;
-    }
-    a
 }

@@ -1,9 +1,10 @@
 -- Laws of `decimal`: one digit, or the tenth's digits and one more; its length; and what is read back from it is the number. Assumes nothing.
-use Prim.Native.Nat.{ℕ, zero, suc, ◌+◌, ◌/◌, ◌%◌, ◌^◌, ◌<◌, ◌≤◌}
+use Prim.Native.Nat.{ℕ, zero, suc, ◌+◌, ◌*◌, ◌/◌, ◌%◌, ◌^◌, ◌<◌, ◌≤◌}
 use mathlib.Core.Path.{◌≡◌, refl, sym, ◌∙◌, ap}
 use mathlib.Core.Bool.{Bool, true, false}
 use mathlib.Core.List.{List, [], ◌∷◌, ◌++◌}
-use native.Mathlib.Nat.{pow-suc}
+use Rattle.std.specs.Prelude.{max}
+use native.Mathlib.Nat.{pow-suc, mod-eq_of_lt}
 use native.Mathlib.Omega.{arith}
 use lib.Dec.{ltb}
 use lib.ListN.{length, length-append}
@@ -67,10 +68,6 @@ length_one n h = rw (decimal_one n h) refl
 pub length_more : (n : ℕ) → 10 ≤ n → length (decimal n) ≡ length (decimal (n / 10)) + 1
 length_more n h = rw (decimal_more n h, length-append) refl
 
-pub length_some : (n : ℕ) → 1 ≤ length (decimal n)
-length_some =
-    by_tens (λ n. 1 ≤ length (decimal n)) (λ n h. omega (arith, length_one n h)) (λ n h p. omega (arith, length_more n h))
-
 -- a number below 10 ^ (k + 1) has at most k + 1 digits
 pub length_most : (k n : ℕ) → n < 10 ^ suc k → length (decimal n) ≤ suc k
 length_most zero n h = omega (arith, length_one n h)
@@ -83,3 +80,36 @@ length_most (suc k) n h = way (ltb n 10) refl (length_most k (n / 10) (omega (ar
 -- a number of 64 bits
 pub word_length : (n : ℕ) → n < 2 ^ 64 → length (decimal n) ≤ word_digits
 word_length n h = length_most 19 n (omega arith)
+
+-- a number from a power of ten to below the next has a digit more than the power
+pub length_power : (k n : ℕ) → 10 ^ k ≤ n → n < 10 * 10 ^ k → length (decimal n) ≡ suc k
+length_power zero n low high = length_one n (omega arith)
+length_power (suc k) n low high =
+    let tenth : length (decimal (n / 10)) ≡ suc k = length_power k (n / 10) (omega (arith, pow-suc 10 k)) (omega (arith, pow-suc 10 k)) in
+    omega (arith, length_more n (omega (arith, pow-suc 10 k)), tenth)
+
+-- 0 has as many digits as 1
+pub length_least : (n : ℕ) → length (decimal (max n 1)) ≡ length (decimal n)
+length_least zero = length_one 1 (omega arith) ∙ sym (length_one 0 (omega arith))
+length_least (suc n) = ap (λ (m : ℕ). length (decimal m)) (omega arith)
+
+-- the last k decimal digits of a number
+unfoldable pub last_digits : ℕ → ℕ → List ℕ
+last_digits zero n = []
+last_digits (suc k) n = last_digits k (n / 10) ++ (digit (n % 10) ∷ [])
+
+pub length_last : (k n : ℕ) → length (last_digits k n) ≡ k
+unfolding last_digits
+length_last zero n = refl
+length_last (suc k) n = length-append (last_digits k (n / 10)) (digit (n % 10) ∷ []) ∙ omega (arith, length_last k (n / 10))
+
+-- as many as it has are all
+pub all_digits : (n : ℕ) → last_digits (length (decimal n)) n ≡ decimal n
+unfolding last_digits
+all_digits =
+    by_tens (λ n. last_digits (length (decimal n)) n ≡ decimal n)
+    (λ n h. rw (decimal_one n h, mod-eq_of_lt h) refl)
+    (λ n h p. ap (λ (k : ℕ). last_digits k n) (length_suc n h) ∙ ap (λ (front : List ℕ). front ++ (digit (n % 10) ∷ [])) p ∙ sym (decimal_more n h))
+  where
+    length_suc : (n : ℕ) → 10 ≤ n → length (decimal n) ≡ suc (length (decimal (n / 10)))
+    length_suc n h = omega (arith, length_more n h)

@@ -1,13 +1,13 @@
 -- Laws of `digit` and `hex`: a digit is `0` to `9` or `a` to `f`, and what is read back from digits is the number that they were written for.
 -- Assumes nothing.
-use Prim.Native.Nat.{ℕ, zero, suc, ◌+◌, ◌-◌, ◌*◌, ◌/◌, ◌%◌, ◌<◌, ◌≤◌}
+use Prim.Native.Nat.{ℕ, zero, suc, ◌+◌, ◌-◌, ◌*◌, ◌/◌, ◌%◌, ◌<◌}
 use mathlib.Core.Path.{◌≡◌, refl, sym, ◌∙◌, ap}
 use mathlib.Core.Bool.{Bool, true, false, false≢true}
 use mathlib.Core.List.{List, [], ◌∷◌, ◌++◌}
 use native.Mathlib.Nat.{zero-add, div-add-mod', div-div-eq-div-mul, mod-eq_of_lt}
 use native.Mathlib.Omega.{arith}
 use lib.Dec.{ltb, eqb}
-use borrow.Author.Tests.{lt-ltb, le-ltb, eqb-true, eqb-false}
+use borrow.Author.Tests.{eqb-true, eqb-false}
 use Rattle.base.specs.Words.{pick}
 use Rattle.text.specs.Text.{digit, hex}
 
@@ -30,12 +30,6 @@ at_each test (suc n) all d h = go (test n) refl all (λ rest. at_each test n res
 pub digit_is : (d : ℕ) → d < 16 → digit d ≡ pick (ltb d 10) (48 + d) (87 + d)
 unfolding digit
 digit_is d h = eqb-true _ _ (at_each (λ k. eqb (digit k) (pick (ltb k 10) (48 + k) (87 + k))) 16 refl d h)
-
-pub digit_low : (d : ℕ) → d < 10 → digit d ≡ 48 + d
-digit_low d h = digit_is d (omega arith) ∙ rw (lt-ltb d 10 h) refl
-
-pub digit_high : (d : ℕ) → 10 ≤ d → d < 16 → digit d ≡ 87 + d
-digit_high d l h = digit_is d h ∙ rw (le-ltb d 10 l) refl
 
 -- the number that a digit stands for
 unfoldable pub digit_value : ℕ → ℕ

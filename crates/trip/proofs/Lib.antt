@@ -6,4 +6,3 @@ pub mod Refused
 pub mod Written
 pub mod Verdict
 pub mod Theorems
-pub mod Says

@@ -11,9 +11,8 @@ use lib.IntN.{pos}
 use Rattle.base.specs.declared.Plan.{Plan}
 use Rattle.base.specs.Limits.{trip_limit, speed_most, co2_most}
 use Rattle.base.specs.Plan.{plan_in_range}
-use Rattle.base.specs.Refusal.{accepted, lanes_differ, too_many_values, out_of_range, no_second, plan_out_of_range, lane_too_short, fault}
+use Rattle.base.specs.Refusal.{Fault, accepted, lanes_differ, too_many_values, out_of_range, no_second, plan_out_of_range, lane_too_short, fault}
 use Rattle.base.specs.Second.{measured, too_many, state_known, altitude_in_range}
-use Rattle.base.specs.declared.Fault.{Fault}
 use Rattle.second.specs.Row.{has_values, values_in_range, row_in_range}
 use Rattle.second.proofs.Values.{each_value}
 use Rattle.second.specs.Lanes.{Lanes, row_at, seconds_in, lanes_agree, SameLengths, second_in_range, first_bad_second, none_has_values}

@@ -5,7 +5,6 @@ use mathlib.Core.Bool.{not, ◌||◌}
 use lib.ListN.{get_or}
 use Rattle.base.specs.declared.Plan.{Plan}
 use Rattle.base.specs.Second.{state_known}
-use Rattle.base.specs.declared.Fault.{Fault}
 use Rattle.second.specs.Row.{has_values, values_in_range, row_in_range}
 use Rattle.second.specs.Lanes.{Lanes, row_at, second_in_range}
 use Rattle.base.proofs.Tests.{and_left}
@@ -15,7 +14,7 @@ use Rattle.tally.proofs.Tallies.{bins_add_up, seconds_add_up}
 use Rattle.tally.specs.Inside.{added, bin_tallies_after}
 use Rattle.bins.specs.Bins.{bin_of, bins_of}
 use Rattle.trip.specs.declared.Rooms.{Rooms}
-use Rattle.base.specs.Refusal.{fault}
+use Rattle.base.specs.Refusal.{Fault, fault}
 use Rattle.trip.specs.Refusals.{trip_fault}
 use Rattle.trip.specs.Trip.{figures_from, answer_from, evaluated, answer_of, refused}
 use Rattle.trip.specs.Sums.{SumsUp}

@@ -16,7 +16,7 @@ use Rattle.sweep.proofs.Moves.{begins}
 use Rattle.sweep.proofs.Finished.{written, finished_ends, over_exactly}
 use Rattle.order.proofs.Laws.{sort-length}
 use Rattle.acceleration.specs.Products.{products_of}
-use Rattle.base.specs.declared.Fault.{Fault}
+use Rattle.base.specs.Refusal.{Fault}
 use Rattle.second.specs.Lanes.{Lanes, seconds_in}
 use Rattle.windows.proofs.PlanRanges.{plan_ranges}
 use Rattle.found.specs.Found.{kept_speed_values, kept_co2_values, ends_in, ends_of}

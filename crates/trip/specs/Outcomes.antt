@@ -1,10 +1,9 @@
 -- When each number of a trip is given: "Trip: 5, 1, 2, 6, 3, 4".
 use Rattle.std.specs.Prelude.{ℕ, ◌≤◌, ◌<◌, ◌≡◌, true, false, ◌⊎◌}
-use Rattle.base.specs.Refusal.{accepted, lanes_differ, too_many_values, out_of_range, no_second, plan_out_of_range, lane_too_short, fault}
+use Rattle.base.specs.Refusal.{Fault, accepted, lanes_differ, too_many_values, out_of_range, no_second, plan_out_of_range, lane_too_short, fault}
 use Rattle.base.specs.declared.Plan.{Plan}
 use Rattle.base.specs.Limits.{trip_limit}
 use Rattle.base.specs.Plan.{plan_in_range}
-use Rattle.base.specs.declared.Fault.{Fault}
 use Rattle.second.specs.Lanes.{Lanes, seconds_in, SameLengths}
 use Rattle.second.specs.Facts.{FirstBadAt, AllInRange, NoSecond, SomeSecond}
 use Rattle.trip.specs.declared.Rooms.{Rooms}

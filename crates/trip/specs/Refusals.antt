@@ -2,10 +2,9 @@
 use Rattle.std.specs.Prelude.{ℕ, Bool, not, ◌||◌, ltb, eqb}
 use Rattle.base.specs.declared.Plan.{Plan}
 use Rattle.base.specs.Plan.{plan_in_range}
-use Rattle.base.specs.Refusal.{accepted, lanes_differ, too_many_values, out_of_range, no_second, plan_out_of_range, lane_too_short, fault}
+use Rattle.base.specs.Refusal.{Fault, accepted, lanes_differ, too_many_values, out_of_range, no_second, plan_out_of_range, lane_too_short, fault}
 use Rattle.base.specs.Second.{too_many}
 use Rattle.base.specs.Words.{pick}
-use Rattle.base.specs.declared.Fault.{Fault}
 use Rattle.second.specs.Lanes.{Lanes, seconds_in, lanes_agree, first_bad_second, none_has_values}
 use Rattle.trip.specs.declared.Rooms.{Rooms}
 

@@ -1,10 +1,9 @@
 -- A whole trip: its figures and its answer.
 use Rattle.std.specs.Prelude.{ℕ, List, ℤ, length}
 use Rattle.base.specs.declared.Plan.{Plan}
-use Rattle.base.specs.Refusal.{accepted}
+use Rattle.base.specs.Refusal.{Fault, accepted}
 use Rattle.base.specs.Roads.{of_each}
 use Rattle.base.specs.Words.{pick}
-use Rattle.base.specs.declared.Fault.{Fault}
 use Rattle.second.specs.Lanes.{Lanes}
 use Rattle.windows.specs.Counts.{no_count}
 use Rattle.tally.specs.Tally.{no_seconds}

@@ -8,61 +8,47 @@ use crate::Evaluated;
 use bins::Bins;
 use found::Found;
 use reasons::Figures;
+use second::Trip;
 
 // The answer from the lanes, the windows and the bins.
-pub fn conclude(
-    states: &[u8],
-    speeds: &[u16],
-    altitudes: &[i32],
-    found: Found,
-    bins: Bins,
-) -> Evaluated
-    requires { ClimbLanes states.now speeds.now altitudes.now }
-    ensures { result ≡ answer_from states.now speeds.now altitudes.now found bins }
+#[tactic(auto, unfolding(crate::specs::Trip::figures_from, crate::specs::Trip::answer_from))]
+pub fn conclude(trip: &Trip<'_>, found: Found, bins: Bins) -> Evaluated
+    requires { ClimbLanes trip.now.states.now trip.now.speeds.now trip.now.altitudes.now }
+    ensures { result ≡ answer_from trip.now.states.now trip.now.speeds.now trip.now.altitudes.now found bins }
 {
-    let figures = figures_from(states, speeds, altitudes, found, bins);
-    let counts = figures.counts;
+    let figures = figures_from(trip, found, bins);
     let each = bins.each;
-    let total = bins.total;
     let classes = found.classes;
     Evaluated {
         refusal: base::refusal::ACCEPTED,
         place: 0,
         seconds: figures.seconds,
-        missing: counts.missing,
+        missing: figures.counts.missing,
         kept: found.kept,
         windows: found.windows,
         moves: found.moves,
         bins: each,
-        total,
+        total: bins.total,
         climb: figures.climb,
         classes,
-        verdict: verdict::judge(figures),
+        verdict: verdict::judge(&figures),
     }
 }
 
 // What the reasons are judged from.
-fn figures_from(
-    states: &[u8],
-    speeds: &[u16],
-    altitudes: &[i32],
-    found: Found,
-    bins: Bins,
-) -> Figures
-    requires { ClimbLanes states.now speeds.now altitudes.now }
-    ensures { result ≡ figures_from states.now speeds.now altitudes.now found bins }
+#[tactic(auto, unfolding(crate::specs::Trip::figures_from))]
+fn figures_from(trip: &Trip<'_>, found: Found, bins: Bins) -> Figures
+    requires { ClimbLanes trip.now.states.now trip.now.speeds.now trip.now.altitudes.now }
+    ensures { result ≡ figures_from trip.now.states.now trip.now.speeds.now trip.now.altitudes.now found bins }
 {
-    let counts = tally::count_seconds(states, speeds);
-    let climbed = climb::climb(states, speeds, altitudes);
-    let apart = climb::ends_apart(states, altitudes);
+    let climbed = climb::climb(trip);
     let each = bins.each;
-    let total = bins.total;
     let classes = found.classes;
     Figures {
-        seconds: states.len() as u32,
-        counts,
-        distance: total.distance,
-        apart,
+        seconds: trip.seconds() as u32,
+        counts: tally::count_seconds(trip),
+        distance: bins.total.distance,
+        apart: climb::ends_apart(trip),
         high: climbed.high,
         climb: climbed.climb,
         bins: each,

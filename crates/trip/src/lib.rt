@@ -7,19 +7,22 @@ mod conclusion;
 mod refusals;
 
 ghost use Rattle.std.specs.Prelude.{◌≡◌};
-ghost use Rattle.second.specs.Lanes.{lanes_of};
+ghost use Rattle.second.specs.Inside.{lanes_in};
 ghost use Rattle.trip.specs.Trip.{answer_of};
-ghost use Rattle.trip.specs.Lent.{lent_of, rooms_in, lent_left};
+ghost use Rattle.trip.specs.Lent.{rooms_in, lent_left};
+ghost use Rattle.trip.specs.Inside.{lent_in, SameWork};
 
 use base::Plan;
 use bins::Bin;
+use second::Trip;
 use tally::Tally;
 use windows::ClassCount;
 
 // The answer. In a refusal everything but its number and place is zero. Bins and classes stand in
 // the order urban, rural, motorway.
+// Kept: the C interface: a number of refusal and its place beside the rest, as C reads them.
 #[repr(C)]
-#[derive(Clone, Copy)]
+#[derive(Clone, Copy, Default)]
 pub struct Evaluated {
     pub refusal: u8, // 0, or 5, 1, 2, 6, 3, 4
     pub place: usize, // for refusal 3 the index of the first bad second, else 0
@@ -36,6 +39,7 @@ pub struct Evaluated {
 }
 
 // How many places the lent lanes have.
+// Kept: may not change: `trip_fault` and `answer_of` speak of the four lengths, and not of the lanes.
 #[derive(Clone, Copy)]
 pub struct Rooms {
     pub speeds: usize, // for kept speeds
@@ -44,37 +48,39 @@ pub struct Rooms {
     pub ranks: usize,
 }
 
-// Evaluates a trip from its plan and its five lanes. The four lent lanes need a place per second.
-pub fn evaluate(
-    plan: Plan,
-    states: &[u8],
-    speeds: &[u16],
-    altitudes: &[i32],
-    co2: &[u32],
-    nox: &[u32],
-    kept_speeds: &mut [u16],
-    kept_co2: &mut [u32],
-    ends: &mut [u16],
-    ranks: &mut [u32],
-) -> Evaluated
-    ensures { let trip = lanes_of states.now speeds.now altitudes.now co2.now nox.now in
-        let lent = lent_of kept_speeds.old kept_co2.old ends.old ranks.old in
-        let left = lent_of kept_speeds.new kept_co2.new ends.new ranks.new in
-        (result ≡ answer_of plan trip (rooms_in lent))
-        × (left ≡ lent_left plan trip lent) }
-{
-    let rooms = Rooms {
-        speeds: kept_speeds.len(),
-        co2: kept_co2.len(),
-        ends: ends.len(),
-        ranks: ranks.len(),
-    };
-    let fault = refusals::fault_of(plan, states, speeds, altitudes, co2, nox, rooms);
-    let number = fault.number;
-    if number != base::refusal::ACCEPTED {
-        return refusals::refused_for(fault);
+// The lanes that an evaluation is lent, each with a place per second.
+#[derive(Drop)]
+pub struct Workspace<'a> {
+    pub kept_speeds: &'a mut [u16],
+    pub kept_co2: &'a mut [u32],
+    pub ends: &'a mut [u16], // the end of each window, in the place of its first second
+    pub ranks: &'a mut [u32],
+}
+
+impl Workspace<'_> {
+    // How many places its lanes have.
+    fn rooms(&self) -> Rooms
+        ensures { result ≡ rooms_in (lent_in self.now) }
+    {
+        Rooms {
+            speeds: self.kept_speeds.len(),
+            co2: self.kept_co2.len(),
+            ends: self.ends.len(),
+            ranks: self.ranks.len(),
+        }
     }
-    let found = found::find(plan, states, speeds, co2, kept_speeds, kept_co2, ends);
-    let bins = bins::measure(states, speeds, co2, nox, ranks);
-    conclusion::conclude(states, speeds, altitudes, found, bins)
+}
+
+// Evaluates a trip from its plan and its five lanes, in four lent lanes.
+pub fn evaluate(plan: Plan, trip: &Trip<'_>, work: &mut Workspace<'_>) -> Evaluated
+    ensures answer { result ≡ answer_of plan (lanes_in trip.now) (rooms_in (lent_in work.old)) }
+    ensures left { lent_in work.new ≡ lent_left plan (lanes_in trip.now) (lent_in work.old) }
+    ensures same { SameWork work.old work.new }
+{
+    if let Err(refused) = refusals::check(plan, trip, work.rooms()) {
+        return refusals::refused_for(refused);
+    }
+    let found = found::find(plan, trip, work.kept_speeds, work.kept_co2, work.ends);
+    let bins = bins::measure(trip, work.ranks);
+    conclusion::conclude(trip, found, bins)
 }

@@ -1,51 +1,44 @@
 // What is refused of a trip, and the answer of a refusal.
 
 ghost use Rattle.std.specs.Prelude.{◌≡◌};
-ghost use Rattle.second.specs.Lanes.{lanes_of};
+ghost use Rattle.base.specs.Refusal.{fault_of, fault_in};
+ghost use Rattle.second.specs.Inside.{lanes_in};
 ghost use Rattle.trip.specs.Refusals.{too_short, trip_fault};
 ghost use Rattle.trip.specs.Trip.{refused};
 
-use crate::{Bin, Evaluated, Rooms};
-use base::{Fault, Plan};
-use tally::Tally;
-use windows::ClassCount;
+use crate::{Evaluated, Rooms};
+use base::{Plan, Refusal, Refused};
+use second::Trip;
 
-// What is refused of a trip: 5, 1, 2, 6, 3, then 4.
-pub fn fault_of(
-    plan: Plan,
-    states: &[u8],
-    speeds: &[u16],
-    altitudes: &[i32],
-    co2: &[u32],
-    nox: &[u32],
-    rooms: Rooms,
-) -> Fault
-    ensures { let trip = lanes_of states.now speeds.now altitudes.now co2.now nox.now in
-        result ≡ trip_fault plan trip rooms }
+// Refuses a trip: 5, 1, 2, 6, 3, then 4.
+#[tactic(auto, unfolding(crate::specs::Refusals::trip_fault))]
+pub fn check(plan: Plan, trip: &Trip<'_>, rooms: Rooms) -> Result<(), Refused>
+    ensures { fault_in result ≡ trip_fault plan (lanes_in trip.now) rooms }
 {
     if !base::plan_in_range(plan) {
-        return base::fault_at(base::refusal::PLAN_OUT_OF_RANGE, 0);
+        return Err(Refusal::PlanOutOfRange.into());
     }
-    if !second::lanes_agree(states, speeds, altitudes, co2, nox) {
-        return base::fault_at(base::refusal::LANES_DIFFER, 0);
+    if !trip.agree() {
+        return Err(Refusal::LanesDiffer.into());
     }
-    if base::too_many(states.len()) {
-        return base::fault_at(base::refusal::TOO_MANY, 0);
+    if base::too_many(trip.seconds()) {
+        return Err(Refusal::TooMany.into());
     }
-    if too_short(rooms, states.len()) {
-        return base::fault_at(base::refusal::LANE_TOO_SHORT, 0);
+    if too_short(rooms, trip.seconds()) {
+        return Err(Refusal::LaneTooShort.into());
     }
-    let bad = second::first_bad(states, speeds, altitudes, co2, nox);
-    if bad < states.len() {
-        return base::fault_at(base::refusal::OUT_OF_RANGE, bad);
+    if let Some(place) = trip.first_bad() {
+        let refusal = Refusal::OutOfRange;
+        return Err(Refused { refusal, place });
     }
-    if second::none_has_values(states) {
-        return base::fault_at(base::refusal::NO_SECOND, 0);
+    if second::none_has_values(trip.states) {
+        return Err(Refusal::NoSecond.into());
     }
-    base::fault_at(base::refusal::ACCEPTED, 0)
+    Ok(())
 }
 
 // Whether a lent lane has no place for one of n seconds.
+#[tactic(auto, unfolding(crate::specs::Refusals::too_short))]
 fn too_short(rooms: Rooms, n: usize) -> bool
     ensures { result ≡ too_short rooms n }
 {
@@ -53,37 +46,13 @@ fn too_short(rooms: Rooms, n: usize) -> bool
 }
 
 // The answer of a refusal: its number and place, and zeros.
-pub fn refused_for(fault: Fault) -> Evaluated
-    ensures { result ≡ refused fault }
+#[tactic(auto, unfolding(crate::specs::Trip::refused))]
+pub fn refused_for(reason: Refused) -> Evaluated
+    ensures { result ≡ refused (fault_of reason) }
 {
     Evaluated {
-        refusal: fault.number,
-        place: fault.place,
-        seconds: 0,
-        missing: 0,
-        kept: 0,
-        windows: 0,
-        moves: 0,
-        bins: [Bin {
-            seconds: 0,
-            distance: 0,
-            co2: 0,
-            nox: 0,
-            m: 0,
-            t: 0,
-            q: 0,
-        }; 3],
-        total: Tally {
-            seconds: 0,
-            distance: 0,
-            co2: 0,
-            nox: 0,
-        },
-        climb: 0,
-        classes: [ClassCount {
-            windows: 0,
-            inside: 0,
-        }; 3],
-        verdict: 0,
+        refusal: reason.refusal.into(),
+        place: reason.place,
+        ..Evaluated::default()
     }
 }

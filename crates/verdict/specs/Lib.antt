@@ -1,3 +1,2 @@
 -- The definition of the verdict.
 pub mod Verdict
-pub mod Inside

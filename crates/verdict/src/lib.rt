@@ -1,14 +1,14 @@
 // The verdict: a sixteen-bit number, a bit for each reason why a trip is not valid.
 #![tactic(auto)]
 
-ghost use Rattle.std.specs.Prelude.{◌≡◌, ◌≤◌};
-ghost use Rattle.climb.specs.Inside.{climb_most};
-ghost use Rattle.verdict.specs.Verdict.{has_any, verdict};
-ghost use Rattle.verdict.specs.Inside.{marked};
+ghost use Rattle.std.specs.Prelude.{◌≡◌};
+ghost use Rattle.verdict.specs.Verdict.{mask_of, has_any, verdict};
+ghost use Rattle.reasons.specs.Inside.{named};
 
-use reasons::Figures;
+use reasons::{Figures, Reason};
 
 // The masks of the reasons: each is the bit of one reason in the verdict.
+// Kept: the C interface: a mask crosses as a number, which the header names.
 pub const TRIP_LENGTH: u16 = 0x0001;
 
 pub const MISSING_SECONDS: u16 = 0x0002;
@@ -42,36 +42,16 @@ pub const NO_WINDOWS: u16 = 0x4000;
 pub const OUTSIDE_BAND: u16 = 0x8000;
 
 // The verdict: zero says that the trip is valid.
-pub fn judge(figures: Figures) -> u16
-    requires { figures.climb ≤ climb_most }
-    ensures { result ≡ verdict figures }
+pub fn judge(figures: &Figures) -> u16
+    ensures { result ≡ verdict figures.now }
 {
-    let mut reasons: u16 = 0;
-    reasons = mark(reasons, TRIP_LENGTH, reasons::trip_length(figures));
-    reasons = mark(reasons, MISSING_SECONDS, reasons::missing_seconds(figures));
-    reasons = mark(reasons, SHORT_PART, reasons::short_part(figures));
-    reasons = mark(
-        reasons,
-        SHARE_OF_DISTANCE,
-        reasons::share_of_distance(figures),
-    );
-    reasons = mark(reasons, URBAN_MEAN, reasons::urban_mean(figures));
-    reasons = mark(reasons, SLOW_SECONDS, reasons::slow_seconds(figures));
-    reasons = mark(
-        reasons,
-        FEW_FAST_SECONDS,
-        reasons::few_fast_seconds(figures),
-    );
-    reasons = mark(reasons, TOO_FAST, reasons::too_fast(figures));
-    reasons = mark(reasons, ENDS_APART, reasons::ends_apart(figures));
-    reasons = mark(reasons, TOO_HIGH, reasons::too_high(figures));
-    reasons = mark(reasons, TOO_MUCH_CLIMB, reasons::too_much_climb(figures));
-    reasons = mark(reasons, FEW_PRODUCTS, reasons::few_products(figures));
-    reasons = mark(reasons, LIVELY_BIN, reasons::lively_bin(figures));
-    reasons = mark(reasons, DULL_BIN, reasons::dull_bin(figures));
-    reasons = mark(reasons, NO_WINDOWS, reasons::no_windows(figures));
-    reasons = mark(reasons, OUTSIDE_BAND, reasons::outside_band(figures));
-    reasons
+    let mut verdict: u16 = 0;
+    for reason in Reason::ALL {
+        if reason.holds(figures) {
+            verdict |= mask_of(reason);
+        }
+    }
+    verdict
 }
 
 // Whether a verdict has any of the reasons of a mask.
@@ -81,12 +61,26 @@ pub fn has_reason(verdict: u16, mask: u16) -> bool
     (verdict & mask) != 0
 }
 
-// The reasons with one more, where it holds.
-fn mark(reasons: u16, mask: u16, on: bool) -> u16
-    ensures { result ≡ marked reasons mask on }
+// The mask of a reason.
+fn mask_of(reason: Reason) -> u16
+    ensures { result ≡ mask_of (named reason) }
 {
-    if on {
-        return reasons | mask;
+    match reason {
+        Reason::TripLength => TRIP_LENGTH,
+        Reason::MissingSeconds => MISSING_SECONDS,
+        Reason::ShortPart => SHORT_PART,
+        Reason::ShareOfDistance => SHARE_OF_DISTANCE,
+        Reason::UrbanMean => URBAN_MEAN,
+        Reason::SlowSeconds => SLOW_SECONDS,
+        Reason::FewFastSeconds => FEW_FAST_SECONDS,
+        Reason::TooFast => TOO_FAST,
+        Reason::EndsApart => ENDS_APART,
+        Reason::TooHigh => TOO_HIGH,
+        Reason::TooMuchClimb => TOO_MUCH_CLIMB,
+        Reason::FewProducts => FEW_PRODUCTS,
+        Reason::LivelyBin => LIVELY_BIN,
+        Reason::DullBin => DULL_BIN,
+        Reason::NoWindows => NO_WINDOWS,
+        Reason::OutsideBand => OUTSIDE_BAND,
     }
-    reasons
 }

@@ -9,7 +9,7 @@ use lib.Dec.{leb, ltb}
 use Rattle.base.specs.Fraction.{Fraction, whole, times, at_most}
 use Rattle.base.proofs.Fractions.{Is, is_same, whole_is, times_is, at_most_is}
 use Rattle.base.proofs.Integers.{leb_same, ltb_is}
-use Rattle.windows.specs.declared.Curve.{Curve}
+use Rattle.windows.specs.declared.curve.Curve.{Curve}
 use Rattle.windows.specs.Figure.{mass_per_km, in_band}
 use Rattle.windows.specs.Inside.{held_as}
 use Rattle.windows.proofs.Exact.{figure_is}

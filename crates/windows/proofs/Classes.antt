@@ -3,9 +3,12 @@ use Prim.Native.Nat.{ℕ, ◌*◌, ◌≤◌, ◌<◌}
 use mathlib.Core.Path.{◌≡◌, refl}
 use mathlib.Core.Bool.{Bool, true, false}
 use native.Mathlib.Omega.{arith}
-use lib.Dec.{ltb}
+use lib.Dec.{ltb, eqb}
 use borrow.Author.Tests.{le-ltb, ltb-true, ltb-false}
 use Rattle.base.specs.Fraction.{Fraction, whole, below}
+use Rattle.base.specs.declared.road.Road.{Road}
+use Rattle.base.specs.declared.road.Road.TheVariants.{Urban, Rural, Motorway}
+use Rattle.base.specs.Roads.{road_number}
 use Rattle.base.specs.Words.{pick}
 use Rattle.base.proofs.Choice.{both_ways}
 use Rattle.windows.specs.Figure.{mean_speed, unclassed, urban_below, rural_below, motorway_below, class_of}
@@ -29,6 +32,12 @@ class_known v =
     both_ways (λ (k : ℕ). k < 4) (below v (whole urban_below)) (omega arith)
     (both_ways (λ (k : ℕ). k < 4) (below v (whole rural_below)) (omega arith)
     (both_ways (λ (k : ℕ). k < 4) (below v (whole motorway_below)) (omega arith) (omega arith)))
+
+-- a window that has a class is not of those that have none
+pub is_classed : (road : Road) → eqb (road_number road) unclassed ≡ false
+is_classed Urban = refl
+is_classed Rural = refl
+is_classed Motorway = refl
 
 -- a window counts at most once inside
 pub one_most : (t : Bool) → pick t 1 0 ≤ 1

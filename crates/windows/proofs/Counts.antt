@@ -22,7 +22,7 @@ use Rattle.windows.proofs.Parts.{part_is, part_length, part_light, part_kept, pa
 use Rattle.windows.proofs.PlanRanges.{plan_ranges}
 
 -- four counts that are equal one by one
-four : {a b c d e f g h : ClassCount} → a ≡ e → b ≡ f → c ≡ g → d ≡ h → ◌≡◌ {A = List ClassCount} (a ∷ b ∷ c ∷ d ∷ []) (e ∷ f ∷ g ∷ h ∷ [])
+pub four : {a b c d e f g h : ClassCount} → a ≡ e → b ≡ f → c ≡ g → d ≡ h → ◌≡◌ {A = List ClassCount} (a ∷ b ∷ c ∷ d ∷ []) (e ∷ f ∷ g ∷ h ∷ [])
 four p q r s = λ i. p i ∷ q i ∷ r i ∷ s i ∷ []
 
 -- a window has one class of four
@@ -126,14 +126,13 @@ module _ (plan : Plan) (speeds co2 : List ℕ) where
           λ i. record { windows = w i; inside = v i }
 
 -- ---- one turn of the loop over the windows
-module _ (plan : Plan) (speeds co2 ends : List ℕ) (count : ℕ) (swept : SweptLanes plan speeds co2 ends count) (f : ℕ) (counts : f < count) where
+module _ (plan : Plan) (speeds co2 ends : List ℕ) (swept : SweptLanes plan speeds co2 ends) (f : ℕ) (counts : f < length ends) where
   pub record Turn : Type 0 where
     pub has : has_window plan.reference co2 f ≡ true
     pub end : get_or ends f 0 ≡ window_end plan.reference co2 f
     pub some : f < get_or ends f 0
     pub within : get_or ends f 0 ≤ length co2
     pub within_too : get_or ends f 0 ≤ length speeds
-    pub place : f < length ends
     pub small : length co2 < 2 ^ 16
 
   pub turn : Turn
@@ -148,7 +147,6 @@ module _ (plan : Plan) (speeds co2 ends : List ℕ) (count : ℕ) (swept : Swept
         some = omega (arith, w.from);
         within = omega (arith, w.within);
         within_too = omega (arith, w.within, swept.same_length);
-        place = omega (arith, w.from, w.within, swept.places);
         small = omega (arith, swept.same_length, swept.speeds_are_kept.few);
       }
 
@@ -176,3 +174,13 @@ module _ (plan : Plan) (speeds co2 ends : List ℕ) (count : ℕ) (swept : Swept
   pub turn_figure : figure_of plan (sum (take (get_or ends f 0 - f) (drop f speeds))) (sum (take (get_or ends f 0 - f) (drop f co2))) (length (take (get_or ends f 0 - f) (drop f co2))) ≡ window_figure plan speeds co2 f
   unfolding window_figure window_end
   turn_figure = rw (part_is f (get_or ends f 0) speeds, part_is f (get_or ends f 0) co2, turn.end) refl
+
+-- where its window lies in the lanes
+pub starts_before : {plan : Plan} {speeds co2 ends : List ℕ} → SweptLanes plan speeds co2 ends → (f : ℕ) → f < length ends → f < get_or ends f 0
+starts_before swept f counts = (turn _ _ _ _ swept f counts).some
+
+pub ends_within : {plan : Plan} {speeds co2 ends : List ℕ} → SweptLanes plan speeds co2 ends → (f : ℕ) → f < length ends → get_or ends f 0 ≤ length co2
+ends_within swept f counts = (turn _ _ _ _ swept f counts).within
+
+pub ends_within_speeds : {plan : Plan} {speeds co2 ends : List ℕ} → SweptLanes plan speeds co2 ends → (f : ℕ) → f < length ends → get_or ends f 0 ≤ length speeds
+ends_within_speeds swept f counts = (turn _ _ _ _ swept f counts).within_too

@@ -1,6 +1,6 @@
 -- Mean speed, line and figure multiplied out: each fraction of the definitions is one difference of naturals over one natural (`Is`), and comparing a
 -- mean with a whole number is comparing products. Assumes nothing.
-use Prim.Native.Nat.{ℕ, ◌+◌, ◌*◌, ◌≤◌}
+use Prim.Native.Nat.{ℕ, ◌+◌, ◌*◌, ◌≤◌, ◌<◌}
 use mathlib.Core.Path.{◌≡◌, refl, sym, ◌∙◌, ap, ap₂}
 use mathlib.Core.Bool.{not}
 use native.Mathlib.Nat.{mul-add, mul_comm, mul-one, one-mul, zero-mul}
@@ -58,12 +58,12 @@ pub record Bounds (e f a w s n : ℕ) : Type 0 where
   pub e_speeds : e * (10 * s) ≤ curve_most * (motorway_below * window_most)
   pub f_from : f * (a * n) ≤ curve_most * (speed_of_e2 * window_most)
 
-pub bounds : {e f a w s n : ℕ} → LineGiven e f a w s n → Bounds e f a w s n
-bounds {e} {f} {a} {w} {s} {n} given =
-    let from : a * n ≤ speed_of_e2 * window_most = product_at_most (speed_of_e2 * window_most) given.a_most given.few tt in
-    let over : w * n ≤ from_e1_to_e2 * window_most = product_at_most (from_e1_to_e2 * window_most) given.w_most given.few tt in
+pub bounds : {e f a w s n : ℕ} → LineGiven e f a w → n ≤ window_most → 10 * s < motorway_below * n → Bounds e f a w s n
+bounds {e} {f} {a} {w} {s} {n} given few classed =
+    let from : a * n ≤ speed_of_e2 * window_most = product_at_most (speed_of_e2 * window_most) given.a_most few tt in
+    let over : w * n ≤ from_e1_to_e2 * window_most = product_at_most (from_e1_to_e2 * window_most) given.w_most few tt in
     let ends : w * n + a * n ≤ (speed_of_e2 + from_e1_to_e2) * window_most = omega arith in
-    let speeds : 10 * s ≤ motorway_below * window_most = omega (arith, given.few, given.classed) in
+    let speeds : 10 * s ≤ motorway_below * window_most = omega (arith, few, classed) in
     record {
       from = from;
       over = over;

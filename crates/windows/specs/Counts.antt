@@ -3,9 +3,8 @@ use Rattle.std.specs.Prelude.{ℕ, Bool, ◌&&◌, List, eqb, length}
 use Rattle.base.specs.declared.Plan.{Plan}
 use Rattle.base.specs.Words.{sum, how_many}
 use Rattle.sweep.specs.Window.{from_to, window_last, has_window}
-use Rattle.windows.specs.declared.Figure.{Figure}
 use Rattle.windows.specs.declared.ClassCount.{ClassCount}
-use Rattle.windows.specs.Figure.{figure_of}
+use Rattle.windows.specs.Figure.{Figure, figure_of}
 
 -- no windows
 abbrev pub no_count : ClassCount

@@ -6,7 +6,6 @@ use Rattle.base.specs.declared.Plan.{Plan}
 use Rattle.base.specs.Fraction.{Fraction, whole, plus, minus, times, over, at_most, below}
 use Rattle.base.specs.Roads.{urban, rural, motorway}
 use Rattle.base.specs.Words.{pick}
-use Rattle.windows.specs.declared.Figure.{Figure}
 
 -- "mean speed is v = .. 10S/n .. in 0.001 km/h"; "the exact mean"
 abbrev pub mean_speed : ℕ → ℕ → Fraction
@@ -69,6 +68,11 @@ in_band lower upper c w =
 -- "upper tolerances for urban, rural, motorway"
 unfoldable pub upper_of : Plan → ℕ → ℕ
 upper_of plan class = pick (eqb class urban) plan.urban (pick (eqb class rural) plan.rural plan.motorway)
+
+-- a window judged: its class, and whether it is inside its band
+pub record Figure : Type 0 where
+  pub class : ℕ
+  pub inside : Bool
 
 -- the class of a window and whether it is inside; a window without a class is in no band
 unfoldable pub figure_of : Plan → ℕ → ℕ → ℕ → Figure

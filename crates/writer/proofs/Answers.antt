@@ -7,9 +7,8 @@ use native.Mathlib.Omega.{arith}
 use lib.ListN.{length, drop}
 use lib.Seq.{sets, sets-eq}
 use borrow.Author.Tests.{ne_eqb}
-use Rattle.base.specs.declared.Fault.{Fault}
 use Rattle.base.specs.declared.Plan.{Plan}
-use Rattle.base.specs.Refusal.{fault}
+use Rattle.base.specs.Refusal.{Fault, fault}
 use Rattle.base.specs.InFront.{InFront}
 use Rattle.base.proofs.InFront.{in_front}
 use Rattle.second.specs.Lanes.{Lanes}

@@ -1,15 +1,12 @@
 -- `acceleration::d_of` meets its contract by the order of the two speeds. Assumes nothing.
-use mathlib.Core.Path.{sym}
 use native.Mathlib.Omega.{arith}
-use Rattle.acceleration.proofs.Rise.{numbered_up, numbered_down}
+use Rattle.std.proofs.lemmas.Int.{ints, to_z-of_z}
+use Rattle.acceleration.specs.D.{d_of}
 use Rattle.acceleration.proofs.d_of.Goals as goal
 
-pub returns-then-before-after : goal.returns-then-before-after
-returns-then-before-after c =
-    let a = c.args in
-    rw (c.speed_after-after.ensures, c.speed_before-before.ensures) (sym (numbered_up a.speeds.now a.i (omega arith)))
+pub returns-clause-value : goal.returns-clause-value
+unfolding d_of
+returns-clause-value c = grind (arith, ints, to_z-of_z)
 
-pub returns : goal.returns
-returns c =
-    let a = c.args in
-    rw (c.speed_after-after.ensures, c.speed_before-before.ensures) (sym (numbered_down a.speeds.now a.i (omega arith)))
+pub returns-clause-of_16_bits : goal.returns-clause-of_16_bits
+returns-clause-of_16_bits c = grind (arith, ints, to_z-of_z)

@@ -1,39 +1,39 @@
 -- `acceleration::d_of_second` meets its contract: an accepted index is inside the lanes, and the rest is picked as in the definition.
 -- Assumes nothing.
 use Prim.Native.Nat.{◌<◌}
-use mathlib.Core.Path.{sym, ◌∙◌, refl, ap}
-use borrow.Author.Tests.{eq-eqb, ne_eqb}
+use mathlib.Core.Path.{◌≡◌, sym, refl, ap}
+use Rattle.std.proofs.Common.{Some, Ok, to_z, of_z, w32}
+use Rattle.std.proofs.lemmas.Result.{err_from_is_err_and}
+use Rattle.std.proofs.lemmas.Int.{to_z-of_z}
+use native.Mathlib.Omega.{arith}
 use lib.ListN.{length}
-use Rattle.second.specs.Lanes.{lanes_of}
+use Rattle.second.specs.Inside.{lanes_in}
 use Rattle.acceleration.proofs.Refusals.{Accepted, accepted_facts}
-use Rattle.acceleration.specs.D.{acceleration_of}
+use Rattle.acceleration.specs.D.{d_of, acceleration_of}
 use Rattle.acceleration.proofs.d_of_second.Goals as goal
+use Rattle.base.proofs.Numbers.{not_accepted}
 
-pub returns-then-number-ne-ACCEPTED : goal.returns-then-number-ne-ACCEPTED
+pub returns-in_err-check-clause-value : goal.returns-in_err-check-clause-value
 unfolding acceleration_of
-returns-then-number-ne-ACCEPTED c = rw (sym c.fault_of-fault.ensures, ne_eqb _ _ c.if-number-ne-ACCEPTED.true) refl
+returns-in_err-check-clause-value c =
+    let p = err_from_is_err_and c.from_residual.result c.from_residual.ensures.1 in
+    rw (p.1, p.2, sym c.in_err-check.ensures, not_accepted) refl
 
 pub has_d-requires : goal.has_d-requires
-has_d-requires c =
-    let number = sym (ap (λ f. f.number) c.fault_of-fault.ensures) ∙ c.if-number-ne-ACCEPTED.false in
-    (accepted_facts _ _ number).inside
+has_d-requires c = (accepted_facts _ _ (sym (ap (λ f. f.number) c.in_ok-check.ensures))).inside
 
 pub d_of-requires : goal.d_of-requires
 d_of-requires c =
-    let a = c.args in
-    let number = sym (ap (λ f. f.number) c.fault_of-fault.ensures) ∙ c.if-number-ne-ACCEPTED.false in
-    let known : Accepted (lanes_of a.states.now a.speeds.now a.altitudes.now a.co2.now a.nox.now) a.i = accepted_facts _ _ number in
-    let inside : a.i < length a.speeds.now = rw known.lengths.speeds known.inside in
+    let known : Accepted (lanes_in c.args.trip.now) c.args.i = accepted_facts _ _ (sym (ap (λ f. f.number) c.in_ok-check.ensures)) in
+    let inside : c.args.i < length c.args.trip.now.speeds.now = rw known.lengths.speeds known.inside in
     inside
 
-pub returns-then-has_d : goal.returns-then-has_d
+pub returns-then-has_d-clause-value : goal.returns-then-has_d-clause-value
 unfolding acceleration_of
-returns-then-has_d c =
-    let number = sym (ap (λ f. f.number) c.fault_of-fault.ensures) ∙ c.if-number-ne-ACCEPTED.false in
-    rw (eq-eqb _ _ number, sym c.has_d.ensures, c.if-has_d.true) c.d_of.ensures
+returns-then-has_d-clause-value c =
+    let d : Ok (Some (to_z w32 (of_z w32 c.d_of.result))) ≡ Ok (Some (d_of c.args.trip.now.speeds.now c.args.i)) = grind (arith, to_z-of_z) in
+    rw (sym c.in_ok-check.ensures, sym c.if-has_d.ensures) d
 
-pub returns : goal.returns
+pub returns-clause-value : goal.returns-clause-value
 unfolding acceleration_of
-returns c =
-    let number = sym (ap (λ f. f.number) c.fault_of-fault.ensures) ∙ c.if-number-ne-ACCEPTED.false in
-    rw (eq-eqb _ _ number, sym c.has_d.ensures, c.if-has_d.false) refl
+returns-clause-value c = rw (sym c.in_ok-check.ensures, sym c.if-has_d.ensures) refl

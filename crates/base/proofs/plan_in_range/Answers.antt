@@ -1,5 +1,4 @@
 -- `base::plan_in_range` meets its contract: its tests are those of the definition, in the same order. Assumes nothing.
-use borrow.Author.Rules.{rules}
 use Rattle.base.specs.Plan.{plan_in_range}
 use Rattle.base.proofs.plan_in_range.Goals as goal
 

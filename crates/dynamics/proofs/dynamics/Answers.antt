@@ -1,29 +1,51 @@
 -- `dynamics::dynamics` meets its contract: each bin's products are ranked right behind those of the bin before. Assumes nothing.
-use Rattle.dynamics.proofs.Three.{speed_lanes, room_urban, room_rural, room_motorway, all_figures, all_ranked}
+use borrow.Author.Rules.{rules}
+use native.Mathlib.Omega.{arith}
+use Rattle.dynamics.proofs.Three.{speed_lanes, room_urban, behind_urban, behind_rural, room_rural, room_motorway, all_figures, all_ranked}
 use Rattle.dynamics.proofs.dynamics.Goals as goal
-
-pub dynamics_from-urban-requires : goal.dynamics_from-urban-requires
-dynamics_from-urban-requires c =
-    let a = c.args in
-    record { speed_lanes = speed_lanes a.states.now a.speeds.now a.ranks.now c.requires; room = room_urban a.states.now a.speeds.now a.ranks.now c.requires }
-
-pub dynamics_from-rural-requires : goal.dynamics_from-rural-requires
-dynamics_from-rural-requires c =
-    let a = c.args in
-    let u = c.dynamics_from-urban.ensures in
-    record { speed_lanes = speed_lanes a.states.now a.speeds.now a.ranks.now c.requires; room = room_rural a.states.now a.speeds.now a.ranks.now c.requires u.0 u.1 }
-
-pub dynamics_from-motorway-requires : goal.dynamics_from-motorway-requires
-dynamics_from-motorway-requires c =
-    let a = c.args in
-    let u = c.dynamics_from-urban.ensures in
-    let r = c.dynamics_from-rural.ensures in
-    record { speed_lanes = speed_lanes a.states.now a.speeds.now a.ranks.now c.requires; room = room_motorway a.states.now a.speeds.now a.ranks.now c.requires u.0 u.1 r.0 r.1 }
 
 pub returns : goal.returns
 returns c =
-    let a = c.args in
-    let u = c.dynamics_from-urban.ensures in
-    let r = c.dynamics_from-rural.ensures in
-    let m = c.dynamics_from-motorway.ensures in
-    (all_figures a.states.now a.speeds.now a.ranks.now c.requires u.0 u.1 r.0 r.1 m.0 m.1, all_ranked a.states.now a.speeds.now a.ranks.now c.requires u.0 u.1 r.0 r.1 m.0 m.1)
+    let u = c.bin_dynamics-urban.ensures in
+    let r = c.bin_dynamics-rural.ensures in
+    let m = c.bin_dynamics-motorway.ensures in
+    (all_figures _ _ _ c.requires u.0 u.1 r.0 r.1 m.0 m.1, all_ranked _ _ _ c.requires u.0 u.1 r.0 r.1 m.0 m.1)
+
+pub bin_dynamics-urban-requires : goal.bin_dynamics-urban-requires
+bin_dynamics-urban-requires c =
+    record { speed_lanes = speed_lanes _ _ _ c.requires; room = room_urban _ _ _ c.requires }
+
+pub bin_dynamics-rural-requires : goal.bin_dynamics-rural-requires
+bin_dynamics-rural-requires c =
+    let u = c.bin_dynamics-urban.ensures in
+    record { speed_lanes = speed_lanes _ _ _ c.requires; room = room_rural _ _ _ c.requires u.0 u.1 }
+
+pub bin_dynamics-motorway-requires : goal.bin_dynamics-motorway-requires
+bin_dynamics-motorway-requires c =
+    let u = c.bin_dynamics-urban.ensures in
+    let r = c.bin_dynamics-rural.ensures in
+    record { speed_lanes = speed_lanes _ _ _ c.requires; room = room_motorway _ _ _ c.requires u.0 u.1 r.0 r.1 }
+
+pub slice_bounds-bin_dynamics-count : goal.slice_bounds-bin_dynamics-count
+slice_bounds-bin_dynamics-count c =
+    let u = c.bin_dynamics-urban.ensures in
+    omega (arith, behind_urban _ _ _ c.requires u.0 u.1)
+
+pub slice_bounds-bin_dynamics-start : goal.slice_bounds-bin_dynamics-start
+slice_bounds-bin_dynamics-start c =
+    let u = c.bin_dynamics-urban.ensures in
+    let behind = behind_urban _ _ _ c.requires u.0 u.1 in
+    search rules
+
+pub slice_bounds-bin_dynamics-count-2 : goal.slice_bounds-bin_dynamics-count-2
+slice_bounds-bin_dynamics-count-2 c =
+    let u = c.bin_dynamics-urban.ensures in
+    let r = c.bin_dynamics-rural.ensures in
+    omega (arith, behind_rural _ _ _ c.requires u.0 u.1 r.0 r.1)
+
+pub slice_bounds-bin_dynamics-start-2 : goal.slice_bounds-bin_dynamics-start-2
+slice_bounds-bin_dynamics-start-2 c =
+    let u = c.bin_dynamics-urban.ensures in
+    let r = c.bin_dynamics-rural.ensures in
+    let behind = behind_rural _ _ _ c.requires u.0 u.1 r.0 r.1 in
+    search rules

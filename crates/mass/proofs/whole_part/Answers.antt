@@ -1,7 +1,6 @@
 -- `mass::whole_part` meets its contract: below 1 there is no whole part, and from 1 up it is what the bits say (`proofs/WholePart.antt`).
 -- Assumes nothing.
 use mathlib.Core.Path.{sym}
-use native.Mathlib.Omega.{arith}
 use lib.Dec.{lit≤}
 use lib.Ieee.{of_bits, to_bits, binary64}
 use Rattle.mass.specs.Mass.{whole_part}

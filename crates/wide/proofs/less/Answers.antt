@@ -1,29 +1,24 @@
 -- Where the high words differ they decide, since a low word is below 2 ^ 64; where they are equal the low words do.
-use Rattle.std.proofs.Common.{◌≡◌, ◌^◌, ◌<◌, ◌≤◌, Bool, true, false, ltb, sym, refl, le_of_lt, arith, ltb-false, ltb-true, le-ltb, lt-ltb}
-use Rattle.wide.specs.declared.Wide.{Wide}
+use Rattle.std.proofs.Common.{ℕ, ◌+◌, ◌*◌, ◌≡◌, ◌∙◌, ◌^◌, ◌<◌, Bool, true, false, ltb, eqb, cond, Some, Less, Equal, Greater, sym, refl, arith, ltb-false, ltb-true, le-ltb, lt-ltb, eqb-true, is_lt}
+use Rattle.std.proofs.lemmas.Bool.{eqb-false}
+use Rattle.std.specs.Ordering.{is_some_and, partial_ordering_then, nat_cmp}
 use Rattle.wide.specs.Inside.{value}
 use Rattle.wide.proofs.less.Goals as goal
 
-high_decides : (v w : Wide) → v.lo < 2 ^ 64 → v.hi < w.hi → value v < value w
-unfolding value
-high_decides v w l h = omega arith
-
-low_decides : (v w : Wide) → v.hi ≡ w.hi → ltb v.lo w.lo ≡ ltb (value v) (value w)
-unfolding value
-low_decides v w e = by_test (ltb v.lo w.lo) refl
+words_decide : (a b c d : ℕ) → b < 2 ^ 64 → d < 2 ^ 64 → is_some_and is_lt (partial_ordering_then (Some (nat_cmp a c)) (Some (nat_cmp b d))) ≡ ltb (a * 2 ^ 64 + b) (c * 2 ^ 64 + d)
+words_decide a b c d hb hd = go (ltb a c) refl (eqb a c) refl (ltb b d) refl (eqb b d)
   where
-    by_test : (b : Bool) → ltb v.lo w.lo ≡ b → b ≡ ltb (value v) (value w)
-    by_test true t = let h : value v < value w = omega (arith, ltb-true v.lo w.lo t) in sym (lt-ltb (value v) (value w) h)
-    by_test false t = let h : value w ≤ value v = omega (arith, ltb-false v.lo w.lo t) in sym (le-ltb (value v) (value w) h)
-
-pub returns-then-a_hi-b_hi : goal.returns-then-a_hi-b_hi
-returns-then-a_hi-b_hi c =
-    sym (lt-ltb _ _ (high_decides c.args.a c.args.b (omega arith) (omega arith)))
-
-pub returns-then-b_hi-a_hi : goal.returns-then-b_hi-a_hi
-returns-then-b_hi-a_hi c =
-    sym (le-ltb _ _ (le_of_lt (high_decides c.args.b c.args.a (omega arith) (omega arith))))
+    go : (t : Bool) → ltb a c ≡ t → (u : Bool) → eqb a c ≡ u → (l : Bool) → ltb b d ≡ l → (m : Bool)
+        → is_some_and is_lt (partial_ordering_then (Some (cond t Less (cond u Equal Greater))) (Some (cond l Less (cond m Equal Greater)))) ≡ ltb (a * 2 ^ 64 + b) (c * 2 ^ 64 + d)
+    go true p u q l r m = sym (lt-ltb _ _ (omega (arith, ltb-true a c p)))
+    go false p false q l r m = sym (le-ltb _ _ (omega (arith, ltb-false a c p, eqb-false a c q)))
+    go false p true q true r m = sym (lt-ltb _ _ (omega (arith, eqb-true a c q, ltb-true b d r)))
+    go false p true q false r true = sym (le-ltb _ _ (omega (arith, eqb-true a c q, ltb-false b d r)))
+    go false p true q false r false = sym (le-ltb _ _ (omega (arith, eqb-true a c q, ltb-false b d r)))
 
 pub returns : goal.returns
+unfolding value
 returns c =
-    low_decides c.args.a c.args.b (omega arith)
+    let a = c.args.a in
+    let b = c.args.b in
+    c.lt.ensures ∙ words_decide a.hi a.lo b.hi b.lo (omega arith) (omega arith)

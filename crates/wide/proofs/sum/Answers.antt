@@ -1,14 +1,16 @@
--- The low words' sum falls below one of them exactly when it turned over. It then lacks 2 ^ 64, the one that the high word gains.
-use Rattle.std.proofs.Common.{arith}
+-- The carry counts by 2 ^ 64, as a high word does.
+use Rattle.std.proofs.Common.{◌≡◌, Bool, true, false, refl, arith}
+use Rattle.std.specs.Int.{from_bool}
+use mir.Val.{bool_byte}
 use Rattle.wide.specs.Inside.{value}
 use Rattle.wide.proofs.sum.Goals as goal
 
-pub returns-then-lo-a_lo : goal.returns-then-lo-a_lo
-unfolding value
-returns-then-lo-a_lo c =
-    omega arith
+-- a carry as a word
+as_word : (carry : Bool) → bool_byte carry ≡ from_bool carry
+as_word true = refl
+as_word false = refl
 
 pub returns : goal.returns
 unfolding value
 returns c =
-    omega arith
+    omega (arith, c.carrying_add-lo.ensures, as_word c.carrying_add-lo.result.1)

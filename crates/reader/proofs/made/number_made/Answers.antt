@@ -1,10 +1,9 @@
--- `reader::made::number_made` meets its contract, before the plan and after it. Assumes nothing.
+-- `reader::made::number_made` meets its contract: what no refusal has for its number settles nothing. Assumes nothing.
+use mathlib.Core.Path.{sym}
+use Rattle.reader.specs.Reader.{plan_before}
+use Rattle.reader.proofs.Settled.{no_refusal}
 use Rattle.reader.proofs.made.number_made.Goals as goal
 
-pub returns-then-plan_before : goal.returns-then-plan_before
-returns-then-plan_before c =
-    rw (← c.plan_before.ensures, c.if-plan_before.true) c.number_after.ensures
-
-pub returns : goal.returns
-returns c =
-    rw (← c.plan_before.ensures, c.if-plan_before.false) c.number_before.ensures
+pub returns-in-Err : goal.returns-in-Err
+returns-in-Err c =
+    let r = c.args.reader in sym (no_refusal r.seconds r.refusal (plan_before r.at) c.in-Err.ensures)

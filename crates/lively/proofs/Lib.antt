@@ -1,2 +1,0 @@
--- The law of the products' order.
-pub mod Order

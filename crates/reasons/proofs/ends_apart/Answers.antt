@@ -1,9 +1,0 @@
--- `reasons::ends_apart` meets its contract: it is a figure itself. Assumes nothing.
-use mathlib.Core.Path.{refl}
-use Rattle.reasons.specs.Reasons.{holds}
-use Rattle.reasons.proofs.ends_apart.Goals as goal
-
-pub returns : goal.returns
-unfolding holds
-returns c =
-    refl

@@ -1,9 +1,0 @@
--- `reasons::slow_seconds` meets its contract: its test is that of the definition. Assumes nothing.
-use mathlib.Core.Path.{refl}
-use Rattle.reasons.specs.Reasons.{holds}
-use Rattle.reasons.proofs.slow_seconds.Goals as goal
-
-pub returns : goal.returns
-unfolding holds
-returns c =
-    rw c.share_is_outside.ensures refl
