@@ -9,7 +9,8 @@ use Rattle.base.specs.Limits.{trip_limit}
 use Rattle.base.specs.Second.{too_many}
 use Rattle.base.specs.Words.{pick}
 use Rattle.base.proofs.Tests.{or_left, or_right}
-use Rattle.second.specs.Lanes.{Lanes, seconds_in, lanes_agree, SameLengths, second_in_range, first_bad_second, none_has_values}
+use Rattle.second.specs.Lanes.{Lanes, seconds_in, lanes_agree, second_in_range, first_bad_second, none_has_values}
+use Rattle.second.specs.Facts.{SameLengths}
 use Rattle.second.proofs.Lanes.{agree, each_in_range}
 use Rattle.acceleration.specs.D.{fault_of}
 

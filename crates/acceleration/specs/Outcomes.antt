@@ -2,8 +2,8 @@
 use Rattle.std.specs.Prelude.{ℕ, ◌≤◌, ◌<◌, ◌⊎◌}
 use Rattle.base.specs.Refusal.{Fault, accepted, lanes_differ, too_many_values, out_of_range, no_second, fault}
 use Rattle.base.specs.Limits.{trip_limit}
-use Rattle.second.specs.Lanes.{Lanes, seconds_in, SameLengths}
-use Rattle.second.specs.Facts.{FirstBadAt, AllInRange, NoSecond, SomeSecond}
+use Rattle.second.specs.Lanes.{Lanes, seconds_in}
+use Rattle.second.specs.Facts.{SameLengths, FirstBadAt, AllInRange, NoSecond, SomeSecond}
 
 module _ (trip : Lanes) (i : ℕ) where
   abbrev n : ℕ

@@ -4,7 +4,7 @@
 ghost use Rattle.std.specs.Prelude.{◌≡◌, ◌^◌, ◌<◌, ◌≤◌, length, nat_abs, IfOk, IfSome};
 ghost use Rattle.base.specs.Refusal.{fault_in, answer_in};
 ghost use Rattle.base.specs.Words.{with_front};
-ghost use Rattle.second.specs.Inside.{lanes_in};
+ghost use Rattle.second.specs.Lanes.{lanes_in};
 ghost use Rattle.acceleration.specs.D.{speed_before, speed_after, has_before, has_after, has_d, d_of, fault_of, acceleration_of};
 ghost use Rattle.acceleration.specs.Inside.{SpeedLanes, product_counted, figures_of};
 ghost use Rattle.acceleration.specs.Products.{products_of};
@@ -45,7 +45,7 @@ fn check(trip: &Trip<'_>, i: usize) -> Result<(), Refused>
     if base::too_many(seconds) {
         return Err(Refused::from(Refusal::TooMany));
     }
-    if let Some(place) = trip.first_bad() {
+    if let Some(place) = second::first_bad(trip) {
         return Err(Refused {
             refusal: Refusal::OutOfRange,
             place,

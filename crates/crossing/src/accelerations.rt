@@ -1,7 +1,7 @@
 // D of one second, and the percentile of products.
 
 ghost use Rattle.std.specs.Prelude.{◌≡◌, ◌<◌, ◌^◌, length, nat_abs, Ok, Some};
-ghost use Rattle.second.specs.Inside.{lanes_in};
+ghost use Rattle.second.specs.Lanes.{lanes_in};
 ghost use Rattle.acceleration.specs.D.{acceleration_of};
 ghost use Rattle.percentile.specs.Percentile.{answer_of, lane_of};
 ghost use Rattle.crossing.specs.Accelerations.{acceleration_across, percentile_across};

@@ -3,7 +3,7 @@
 
 ghost use Rattle.std.specs.Prelude.{◌≡◌, length};
 ghost use Rattle.base.specs.Words.{with_front};
-ghost use Rattle.second.specs.Inside.{lanes_in};
+ghost use Rattle.second.specs.Lanes.{lanes_in};
 ghost use Rattle.kept.specs.Kept.{kept_of};
 ghost use Rattle.sweep.specs.Sweep.{beginning, ends_after};
 ghost use Rattle.sweep.specs.Window as window;

@@ -18,15 +18,10 @@ use Rattle.reader.proofs.Whole.{fed_all_lem}
 use Rattle.blocks.specs.Inside.{written}
 use Rattle.second.specs.Lanes.{Lanes, room_in, each_lane}
 use Rattle.second.proofs.EachLane.{Long, same_room}
+use Rattle.input.specs.Inside.{HasFed}
 use Rattle.input.specs.Input.{block_most, Block, HasRead}
 
 -- ---- a read
--- the bytes that came were fed to the reader, once, and their seconds stand in the lanes
-pub record HasFed (before : Lanes) (r : Reader) (came : List ℕ) (next : Reader) (after : Lanes) : Type 0 where
-  pub block : Block came
-  pub reader : next ≡ reader_after (room_in before) r came
-  pub lanes : after ≡ each_lane (λ A value. lane_with value (room_in before) r came) before
-
 pub no_block : Block []
 no_block = record { bytes = no_bytes; most = omega arith }
 

@@ -13,8 +13,9 @@ use Rattle.reader.specs.Reader.{started, reader_at}
 use Rattle.reader.specs.Inside.{was_made}
 use Rattle.second.specs.Lanes.{Lanes, room_in}
 use Rattle.input.specs.declared.Input.{Input}
+use Rattle.input.specs.Inside.{HasFed}
 use Rattle.input.specs.Input.{reads_on, HasRead}
-use Rattle.input.proofs.Blocks.{HasFed, has_read_nothing, has_read_more, read_places}
+use Rattle.input.proofs.Blocks.{has_read_nothing, has_read_more, read_places}
 use Rattle.input.proofs.Settling.{seen_by, enough, seen_more, seen_most}
 
 -- where it goes on, a byte came and no bad item

@@ -1,2 +1,3 @@
 -- The definitions of the reading of the input.
 pub mod Input
+pub mod Inside

@@ -3,8 +3,12 @@
 // what is made of the bytes that came. specs/Input.antt says what is right.
 #![tactic(auto)]
 
-ghost use Rattle.std.specs.Prelude.{◌≡◌, false, length, MatchResult, IfOk};
-ghost use Rattle.second.specs.Inside.{lanes_lent, SameLent};
+ghost use Rattle.std.specs.Prelude.{◌≡◌, ◌≤◌, true, false, length, take, MatchResult, IfOk, IfErr};
+ghost use Rattle.base.specs.Refusal.{accepted};
+ghost use Rattle.second.specs.Lanes.{lanes_lent};
+ghost use Rattle.second.specs.Same.{SameLent};
+ghost use Rattle.reader.specs.Inside.{was_made};
+ghost use Rattle.input.specs.Inside.{HasFed};
 ghost use Rattle.input.specs.Input.{block_most, reads_on, HasRead};
 
 use base::{limits, refusal};
@@ -38,10 +42,9 @@ impl Input {
 }
 
 // Reads the input until no further byte can change the answer: to its end, or to the first bad item. A
-// read that fails, also where a signal interrupts it, ends the reading: then it answers the reader as it
-// stood.
+// read that fails ends the reading: then it answers the reader as it stood.
 pub fn read_input(
-    mut stdin: Stdin,
+    stdin: Stdin,
     block: &mut [u8],
     lanes: &mut LentLanes<'_>,
 ) -> Result<Input, Reader>
@@ -54,18 +57,39 @@ pub fn read_input(
         reader: reader::start(),
     };
     for _ in 0..READS {
-        let Ok(came) = stdin.read(block) else {
-            return Err(made.reader);
-        };
-        let next = blocks::take(made, &block[..came], lanes);
-        let input = Input {
-            reader: next.reader,
-            came,
-        };
+        let input = read_block(stdin, made, block, lanes)?;
         if !input.reads_on() {
             return Ok(input);
         }
-        made = next;
+        made = Made {
+            reader: input.reader,
+        };
     }
     unreachable!()
+}
+
+// Reads a block, as many bytes as there are, and feeds it to the reader: these bytes, once. A read that
+// fails, also where a signal interrupts it, answers the reader as it stood, and the lanes are as they were.
+fn read_block(
+    mut stdin: Stdin,
+    made: Made,
+    block: &mut [u8],
+    lanes: &mut LentLanes<'_>,
+) -> Result<Input, Reader>
+    requires unsettled { made.reader.refusal ≡ accepted }
+    requires block_len { length block.old ≡ block_most }
+    ensures fed { IfOk result (λ input. HasFed (lanes_lent lanes.old) made.reader (take input.came block.new) input.reader (lanes_lent lanes.new)) }
+    ensures failed { IfErr result (λ reader. (reader ≡ made.reader) × (lanes_lent lanes.new ≡ lanes_lent lanes.old)) }
+    ensures within { IfOk result (λ input. input.came ≤ block_most) }
+    ensures made { IfOk result (λ input. was_made input.reader ≡ true) }
+    ensures same { SameLent lanes.old lanes.new }
+{
+    let Ok(came) = stdin.read(block) else {
+        return Err(made.reader);
+    };
+    let next = blocks::take(made, &block[..came], lanes);
+    Ok(Input {
+        reader: next.reader,
+        came,
+    })
 }

@@ -7,9 +7,9 @@
 
 ghost use Rattle.std.specs.Prelude.{◌≡◌, true, false, length};
 ghost use Rattle.base.specs.Words.{with_front};
-ghost use Rattle.second.specs.Inside.{lanes_in, lanes_lent};
-ghost use Rattle.trip.specs.Lent.{rooms_in};
-ghost use Rattle.trip.specs.Inside.{lent_in, SameWork};
+ghost use Rattle.second.specs.Lanes.{lanes_in, lanes_lent};
+ghost use Rattle.trip.specs.Lent.{rooms_in, lent_in};
+ghost use Rattle.trip.specs.Same.{SameWork};
 ghost use Rattle.report.specs.Lines.{longest_text};
 ghost use Rattle.printed.specs.Printed.{printed_text, lent_after};
 ghost use Rattle.input.specs.Input.{block_most};

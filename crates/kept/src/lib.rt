@@ -4,7 +4,7 @@
 
 ghost use Rattle.std.specs.Prelude.{◌≡◌, length};
 ghost use Rattle.base.specs.Words.{with_front};
-ghost use Rattle.second.specs.Inside.{lanes_in};
+ghost use Rattle.second.specs.Lanes.{lanes_in};
 ghost use Rattle.kept.specs.Kept.{second_kept, kept_of};
 ghost use Rattle.kept.specs.Inside.{KeptLanes};
 

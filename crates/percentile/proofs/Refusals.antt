@@ -7,7 +7,6 @@ use native.Mathlib.Omega.{arith}
 use borrow.Author.Tests.{eqb-false, ltb-false, eq-eqb, ne_eqb}
 use lib.Dec.{ltb}
 use lib.ListN.{length, take, drop}
-use lib.Seq.{length-take-le}
 use Rattle.std.specs.Prelude.{Ok, Err}
 use Rattle.base.specs.Refusal as base
 use Rattle.base.specs.Refusal.{fault, accepted, number_of}
@@ -47,9 +46,6 @@ accepted_facts values places = go (too_many n) refl (ltb n fewest) refl (ltb pla
 pub accepted_given : (values : List ℕ) (places : ℕ) → fault accepted 0 ≡ fault_of values places → Accepted values places
 accepted_given values places given = accepted_facts values places (sym (ap (λ f. f.number) given))
 
-pub places_given : (values lane : List ℕ) → fault accepted 0 ≡ fault_of values (length lane) → length (take (length values) lane) ≡ length values
-places_given values lane given = length-take-le (length values) lane (accepted_given values (length lane) given).room
-
 -- the answer and the lane, refused and accepted
 module _ (values lane : List ℕ) where
   pub answer_refused : ((fault_of values (length lane)).number ≡ 0 → ⊥) → answer_of values (length lane) ≡ Err (fault_of values (length lane))
@@ -77,14 +73,12 @@ module _ (values lane : List ℕ) where
 
   -- where it refuses nothing, and the values are copied to the front of the lane and ranked there
   pub ranked_given :
-      (front after : List ℕ) (q : ℕ) → fault accepted 0 ≡ fault_of values (length lane) → front ≡ values
-      → (let filled = front ++ drop (length values) lane in (q ≡ q_or_zero (take (length values) filled)) × (after ≡ sort (take (length values) filled) ++ drop (length values) filled))
+      (filled after : List ℕ) (q : ℕ) → fault accepted 0 ≡ fault_of values (length lane) → filled ≡ with_front values lane
+      → (q ≡ q_or_zero (take (length values) filled)) × (after ≡ sort (take (length values) filled) ++ drop (length values) filled)
       → (Ok q ≡ answer_of values (length lane)) × (after ≡ lane_of values lane)
-  ranked_given front after q given copied ranked =
+  ranked_given filled after q given is ranked =
       let known : Accepted values (length lane) = accepted_given values (length lane) given in
       let number : (fault_of values (length lane)).number ≡ 0 = sym (ap (λ f. f.number) given) in
-      let filled : List ℕ = front ++ drop (length values) lane in
-      let is : filled ≡ with_front values lane = ap (λ (l : List ℕ). l ++ drop (length values) lane) copied in
       let first : take (length values) filled ≡ values = filled_front values lane known.room is in
       let others : drop (length values) filled ≡ drop (length values) lane = filled_rest values lane known.room is in (
         ap Ok (ranked.0 ∙ ap q_or_zero first ∙ enough values known.enough) ∙ sym (answer_accepted number),

@@ -5,6 +5,7 @@
 ghost use Rattle.std.specs.Prelude.{◌≡◌, ◌++◌, ◌≤◌, ◌<◌, length, take, drop, unwrap_or, IfSome};
 ghost use Rattle.base.specs.Limits.{trip_limit};
 ghost use Rattle.base.specs.Refusal.{answer_in, fault_in};
+ghost use Rattle.base.specs.Words.{with_front};
 ghost use Rattle.order.specs.Sort.{sort};
 ghost use Rattle.percentile.specs.Inside.{Ranked};
 ghost use Rattle.percentile.specs.Percentile.{q_of, q_or_zero, first_bad_product, fault_of, answer_of, lane_of};
@@ -19,13 +20,13 @@ const PRODUCT: u32 = 625_000_000;
 
 // Q of products in any order, which are ranked into the lane, one place for each: or what is refused,
 // 2, 12, 6 or 3.
-#[tactic(auto, using(crate::proofs::Refusals::accepted_given, crate::proofs::Refusals::places_given))]
+#[tactic(auto, using(crate::proofs::Refusals::accepted_given))]
 pub fn percentile(values: &[u32], ranks: &mut [u32]) -> Result<u64, Refused>
     ensures value { answer_in result ≡ answer_of values.now (length ranks.old) }
     ensures ranks_after { ranks.new ≡ lane_of values.now ranks.old }
 {
     check(values, ranks.len())?;
-    ranks[..values.len()].copy_from_slice(values);
+    copy(values, ranks);
     Ok(rank_first(ranks, values.len()))
 }
 
@@ -73,6 +74,17 @@ fn first_bad(values: &[u32]) -> Option<usize>
     ensures within { IfSome result (λ place. place < length values.now) }
 {
     values.iter().position(|value| PRODUCT < *value)
+}
+
+// Copies values to the front of a lane.
+// Kept: may not change: by `copy_from_slice` the library for C would need `memmove` from outside.
+fn copy(values: &[u32], lane: &mut [u32])
+    requires { length values.now ≤ length lane.old }
+    ensures { lane.new ≡ with_front values.now lane.old }
+{
+    for i in 0..values.len() {
+        lane[i] = values[i];
+    }
 }
 
 // Q of ranked products: j and r are the quotient and remainder of 95 M by 100.

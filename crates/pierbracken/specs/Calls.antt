@@ -6,8 +6,12 @@ use denote.Triple.Clauses.{AtExit}
 use borrow.Fn.Kinds as contract
 use Rattle.base.specs.declared.Plan.{Plan}
 use Rattle.base.specs.Refusal.{answer_in}
-use Rattle.second.specs.Lanes.{Lanes, room_in}
-use Rattle.second.specs.Inside.{lanes_in, lanes_lent, SameLent}
+use Rattle.second.specs.Lanes.{Lanes, room_in, seconds_in, lanes_agree, lanes_in, lanes_lent}
+use Rattle.second.specs.Same.{SameLent}
+use Rattle.second.proofs.Trip.seconds.Reads as seconds_call
+use Rattle.second.proofs.Trip.agree.Reads as agree_call
+use Rattle.second.proofs.LentLanes.room.Reads as room_call
+use Rattle.second.proofs.LentLanes.as_trip.Reads as as_trip_call
 use Rattle.mass.specs.Mass.{co2_mass, nox_mass}
 use Rattle.mass.proofs.co2_mass.Reads as co2_mass_call
 use Rattle.mass.proofs.nox_mass.Reads as nox_mass_call
@@ -41,8 +45,8 @@ use Rattle.percentile.specs.Percentile as percentiles
 use Rattle.percentile.proofs.percentile.Reads as percentile_call
 use Rattle.trip.specs.declared.Evaluated.{Evaluated}
 use Rattle.trip.specs.Trip.{answer_of}
-use Rattle.trip.specs.Lent.{Lent, rooms_in, lent_left}
-use Rattle.trip.specs.Inside.{lent_in, SameWork}
+use Rattle.trip.specs.Lent.{Lent, rooms_in, lent_left, lent_in}
+use Rattle.trip.specs.Same.{SameWork}
 use Rattle.trip.proofs.evaluate.Kinds as trip_kinds
 use Rattle.trip.proofs.evaluate.Reads as evaluate_call
 use Rattle.verdict.specs.Verdict.{has_any}
@@ -156,6 +160,19 @@ evaluation_parts = trip_parts + 2
 
 abbrev pub print_parts : ℕ
 print_parts = evaluation_parts + 1
+
+-- a trip's lanes as they are handed in, and lanes that are lent: their seconds, whether they agree, their room, and as a trip
+pub seconds : Gives seconds_call.Pre seconds_call.Post (λ κs a. seconds_in (lanes_in a.0.now))
+seconds = record { takes_all = λ κs a. tt; means = λ κs a x e p. (p, refl) }
+
+pub agree : Gives agree_call.Pre agree_call.Post (λ κs a. lanes_agree (lanes_in a.0.now))
+agree = record { takes_all = λ κs a. tt; means = λ κs a x e p. (p, refl) }
+
+pub room : Gives room_call.Pre room_call.Post (λ κs a. room_in (lanes_lent a.0.now))
+room = record { takes_all = λ κs a. tt; means = λ κs a x e p. (p, refl) }
+
+pub as_trip : AnswersAs (Unit {0}) as_trip_call.Pre as_trip_call.Post (λ κs x. lanes_in x) (λ κs a. lanes_lent a.0.now) (λ κs e. tt) (λ κs a. tt)
+as_trip = record { takes_all = λ κs a. tt; means = λ κs a x e p. (p, refl) }
 
 -- D of a second: a trip, and the index
 abbrev pub lanes_before : (κs : Lfts trip_parts) → contract.Dens κs d_kinds.ps → Lanes

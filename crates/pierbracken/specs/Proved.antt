@@ -1,4 +1,12 @@
 -- Demand 1: every public call ends and meets its contract on all inputs: the theorem of each.
+use Rattle.second.proofs.Trip.seconds.Statement as seconds_is
+use Rattle.second.proofs.Trip.seconds.Met as seconds_met
+use Rattle.second.proofs.Trip.agree.Statement as agree_is
+use Rattle.second.proofs.Trip.agree.Met as agree_met
+use Rattle.second.proofs.LentLanes.room.Statement as room_is
+use Rattle.second.proofs.LentLanes.room.Met as room_met
+use Rattle.second.proofs.LentLanes.as_trip.Statement as as_trip_is
+use Rattle.second.proofs.LentLanes.as_trip.Met as as_trip_met
 use Rattle.mass.proofs.co2_mass.Statement as co2_mass_is
 use Rattle.mass.proofs.co2_mass.Met as co2_mass_met
 use Rattle.mass.proofs.nox_mass.Statement as nox_mass_is
@@ -109,6 +117,19 @@ module _ {M : Type 1} where
 
   pub write_text : write_text_is.statement M
   write_text = write_text_met.met
+
+  -- ---- of a trip's lanes and of lanes that are lent, as a caller in Rust holds them
+  pub seconds : seconds_is.statement M
+  seconds = seconds_met.met
+
+  pub agree : agree_is.statement M
+  agree = agree_met.met
+
+  pub room : room_is.statement M
+  room = room_met.met
+
+  pub as_trip : as_trip_is.statement M
+  as_trip = as_trip_met.met
 
   -- ---- of the C interface
   pub pb_meaning : pb_meaning_is.statement M

@@ -3,10 +3,10 @@
 #![tactic(auto)]
 
 ghost use Rattle.std.specs.Prelude.{◌≡◌, ◌≤◌, length};
-ghost use Rattle.second.specs.Inside.{lanes_in};
+ghost use Rattle.second.specs.Lanes.{lanes_in};
 ghost use Rattle.report.specs.Lines.{length_written, buffer_written, longest_text};
-ghost use Rattle.trip.specs.Lent.{rooms_in};
-ghost use Rattle.trip.specs.Inside.{lent_in, SameWork};
+ghost use Rattle.trip.specs.Lent.{rooms_in, lent_in};
+ghost use Rattle.trip.specs.Same.{SameWork};
 ghost use Rattle.printed.specs.Printed.{first_seconds, class_line_of, lines_of, trip_text, printed_text, lent_after};
 
 use base::refusal::ACCEPTED;

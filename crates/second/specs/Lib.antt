@@ -3,4 +3,5 @@ pub mod Row
 pub mod Bins
 pub mod Lanes
 pub mod Facts
+pub mod Same
 pub mod Inside

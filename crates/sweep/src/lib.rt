@@ -3,11 +3,11 @@
 // specs/Window.antt says what a window is, specs/Sweep.antt what a move, a run and an answer are.
 #![tactic(auto)]
 
-ghost use Rattle.std.specs.Prelude.{◌≡◌, ◌^◌, ◌<◌, ◌≤◌, leb, length};
-ghost use Rattle.base.specs.Refusal.{fault, fault_in};
+ghost use Rattle.std.specs.Prelude.{◌≡◌, ◌^◌, ◌<◌, ◌≤◌, false, leb, length};
+ghost use Rattle.base.specs.Refusal.{fault, fault_in, number_of};
 ghost use Rattle.base.specs.Words.{sum};
-ghost use Rattle.sweep.specs.Sweep.{is_over, move, move_ends, after_moves, ends_after, is_reached, first_out_of_range, place_of, sweep_refusal, sweep_answer, sweep_ends};
-ghost use Rattle.sweep.specs.Inside.{Measured, Ready, closed_rightly, needed_last, refused_with};
+ghost use Rattle.sweep.specs.Sweep.{beginning, is_over, move, move_ends, after_moves, ends_after, is_reached, first_out_of_range, place_of, sweep_refusal, sweep_answer, sweep_ends};
+ghost use Rattle.sweep.specs.Inside.{Measured, Ready, closed_rightly, needed_last};
 
 use base::{Refusal, Refused};
 
@@ -61,7 +61,7 @@ pub fn sweep(reference: u32, co2: &[u32], ends: &mut [u16], state: SweepState, b
 
 // A refusal answers its number and place, and zeros.
 impl From<Refused> for Swept {
-    ghost from_gives = { λ refused swept. swept ≡ refused_with refused };
+    ghost from_gives = { λ refused swept. swept ≡ record { refusal = number_of refused.refusal; place = refused.place; state = beginning; moves = 0; over = false } };
 
     fn from(refused: Refused) -> Swept {
         Swept {

@@ -15,7 +15,8 @@ use Rattle.base.specs.Refusal.{Fault, accepted, lanes_differ, too_many_values, o
 use Rattle.base.specs.Second.{measured, too_many, state_known, altitude_in_range}
 use Rattle.second.specs.Row.{has_values, values_in_range, row_in_range}
 use Rattle.second.proofs.Values.{each_value}
-use Rattle.second.specs.Lanes.{Lanes, row_at, seconds_in, lanes_agree, SameLengths, second_in_range, first_bad_second, none_has_values}
+use Rattle.second.specs.Lanes.{Lanes, row_at, seconds_in, lanes_agree, second_in_range, first_bad_second, none_has_values}
+use Rattle.second.specs.Facts.{SameLengths}
 use Rattle.base.proofs.Tests.{and_left, and_right, or_left, or_right}
 use Rattle.second.proofs.Lanes.{agree, each_in_range}
 use Rattle.kept.specs.Kept.{second_kept}

@@ -9,6 +9,7 @@ use Rattle.sweep.specs.Window.{has_window, window_end}
 use Rattle.found.specs.Found as found
 use Rattle.dynamics.specs.Dynamics.{ranked_products, ranks_of}
 use Rattle.trip.specs.declared.Rooms.{Rooms}
+use Rattle.trip.specs.declared.Workspace.{Workspace}
 use Rattle.trip.specs.Refusals.{is_accepted}
 
 pub record Lent : Type 0 where
@@ -19,6 +20,10 @@ pub record Lent : Type 0 where
 
 abbrev pub lent_of : List ℕ → List ℕ → List ℕ → List ℕ → Lent
 lent_of kept_speed_values kept_co2_values ends ranks = record { kept_speed_values = kept_speed_values; kept_co2_values = kept_co2_values; ends = ends; ranks = ranks }
+
+-- those that a caller in Rust lends as one struct, as they stand
+abbrev pub lent_in : Workspace → Lent
+lent_in work = lent_of work.kept_speeds.now work.kept_co2.now work.ends.now work.ranks.now
 
 -- how many places they have
 abbrev pub rooms_in : Lent → Rooms

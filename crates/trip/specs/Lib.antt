@@ -5,4 +5,4 @@ pub mod Lent
 pub mod Outcomes
 pub mod Sums
 pub mod Rules
-pub mod Inside
+pub mod Same

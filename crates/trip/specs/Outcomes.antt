@@ -4,8 +4,8 @@ use Rattle.base.specs.Refusal.{Fault, accepted, lanes_differ, too_many_values, o
 use Rattle.base.specs.declared.Plan.{Plan}
 use Rattle.base.specs.Limits.{trip_limit}
 use Rattle.base.specs.Plan.{plan_in_range}
-use Rattle.second.specs.Lanes.{Lanes, seconds_in, SameLengths}
-use Rattle.second.specs.Facts.{FirstBadAt, AllInRange, NoSecond, SomeSecond}
+use Rattle.second.specs.Lanes.{Lanes, seconds_in}
+use Rattle.second.specs.Facts.{SameLengths, FirstBadAt, AllInRange, NoSecond, SomeSecond}
 use Rattle.trip.specs.declared.Rooms.{Rooms}
 
 -- a place per second in each lent lane

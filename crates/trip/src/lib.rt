@@ -7,10 +7,10 @@ mod conclusion;
 mod refusals;
 
 ghost use Rattle.std.specs.Prelude.{◌≡◌};
-ghost use Rattle.second.specs.Inside.{lanes_in};
+ghost use Rattle.second.specs.Lanes.{lanes_in};
 ghost use Rattle.trip.specs.Trip.{answer_of};
-ghost use Rattle.trip.specs.Lent.{rooms_in, lent_left};
-ghost use Rattle.trip.specs.Inside.{lent_in, SameWork};
+ghost use Rattle.trip.specs.Lent.{rooms_in, lent_left, lent_in};
+ghost use Rattle.trip.specs.Same.{SameWork};
 
 use base::Plan;
 use bins::Bin;

@@ -2,7 +2,7 @@
 
 ghost use Rattle.std.specs.Prelude.{◌≡◌};
 ghost use Rattle.base.specs.Refusal.{fault_of, fault_in};
-ghost use Rattle.second.specs.Inside.{lanes_in};
+ghost use Rattle.second.specs.Lanes.{lanes_in};
 ghost use Rattle.trip.specs.Refusals.{too_short, trip_fault};
 ghost use Rattle.trip.specs.Trip.{refused};
 
@@ -27,7 +27,7 @@ pub fn check(plan: Plan, trip: &Trip<'_>, rooms: Rooms) -> Result<(), Refused>
     if too_short(rooms, trip.seconds()) {
         return Err(Refusal::LaneTooShort.into());
     }
-    if let Some(place) = trip.first_bad() {
+    if let Some(place) = second::first_bad(trip) {
         let refusal = Refusal::OutOfRange;
         return Err(Refused { refusal, place });
     }

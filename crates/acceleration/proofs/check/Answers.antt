@@ -4,8 +4,7 @@ use mathlib.Core.Bool.{true, false, ◌||◌}
 use lib.Dec.{leb, ltb}
 use borrow.Author.Tests.{lt-ltb, le-ltb}
 use native.Mathlib.Omega.{arith}
-use Rattle.second.specs.Lanes.{Lanes, lanes_agree, seconds_in, none_has_values, first_bad_second}
-use Rattle.second.specs.Inside.{lanes_in}
+use Rattle.second.specs.Lanes.{Lanes, lanes_agree, seconds_in, none_has_values, first_bad_second, lanes_in}
 use Rattle.second.proofs.Lanes.{agree}
 use Rattle.acceleration.specs.D.{fault_of}
 use Rattle.acceleration.proofs.check.Goals as goal

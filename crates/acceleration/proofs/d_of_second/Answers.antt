@@ -7,7 +7,7 @@ use Rattle.std.proofs.lemmas.Result.{err_from_is_err_and}
 use Rattle.std.proofs.lemmas.Int.{to_z-of_z}
 use native.Mathlib.Omega.{arith}
 use lib.ListN.{length}
-use Rattle.second.specs.Inside.{lanes_in}
+use Rattle.second.specs.Lanes.{lanes_in}
 use Rattle.acceleration.proofs.Refusals.{Accepted, accepted_facts}
 use Rattle.acceleration.specs.D.{d_of, acceleration_of}
 use Rattle.acceleration.proofs.d_of_second.Goals as goal

@@ -9,7 +9,7 @@ use Rattle.reader.specs.Inside.{was_made}
 use Rattle.reader.proofs.Making.{start_made}
 use Rattle.stream.proofs.Writing.{still_lent}
 use Rattle.input.specs.Input.{block_most}
-use Rattle.input.proofs.Blocks.{block_of, has_fed, has_read_more}
+use Rattle.input.proofs.Blocks.{has_read_more}
 use Rattle.input.proofs.Settling.{enough, enough_is}
 use Rattle.input.proofs.Reading.{stands_first, stands_next, none_left}
 use Rattle.input.proofs.read_input.Goals as goal
@@ -24,21 +24,17 @@ loop-init c =
 
 pub returns-then-not-reads_on-clause-read : goal.returns-then-not-reads_on-clause-read
 returns-then-not-reads_on-clause-read c =
-    let next = c.take-next in
-    let long : length c.read.new.buf ≡ block_most = search rules in
-    let block = block_of c.in-Ok.came c.read.new.buf long (λ i. search rules) in
-    has_read_more _ _ _ _ _ _ c.loop.invariant.stands.read (has_fed _ c.loop.made.0 block next.ensures.reader next.ensures.left)
+    has_read_more _ _ _ _ _ _ c.loop.invariant.stands.read c.in_ok-input.ensures.fed
 
 pub loop-preserved : goal.loop-preserved
 loop-preserved c =
-    let next = c.take-next in
+    let read = c.in_ok-input in
     let so_far = c.loop.invariant in
-    let long : length c.read.new.buf ≡ block_most = search rules in
-    let block = block_of c.in-Ok.came c.read.new.buf long (λ i. search rules) in
+    let long : length c.read_block.new.block ≡ block_most = search rules in
     record {
-      made = next.result.was_made;
-      stands = stands_next _ _ (omega arith) _ c.loop.made.0 _ c.read.new.buf (record { reader = next.result.reader; came = c.in-Ok.came }) _ so_far.stands so_far.made (has_fed _ c.loop.made.0 block next.ensures.reader next.ensures.left) c.in-Ok.ensures.bound.0 (sym c.if-not-reads_on.ensures);
-      same = still_lent so_far.same next.ensures.same;
+      made = read.ensures.made;
+      stands = stands_next _ _ (omega arith) _ c.loop.made.0 _ c.read_block.new.block read.input _ so_far.stands so_far.made read.ensures.fed (omega (arith, long, read.ensures.within)) (sym c.if-not-reads_on.ensures);
+      same = still_lent so_far.same read.ensures.same;
     }
 
 pub unreachable-requires : goal.unreachable-requires

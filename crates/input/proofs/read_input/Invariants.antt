@@ -3,7 +3,8 @@ use Prim.Native.Nat.{◌-◌}
 use mathlib.Core.Path.{◌≡◌}
 use mathlib.Core.Bool.{true}
 use Rattle.reader.specs.Inside.{was_made}
-use Rattle.second.specs.Inside.{lanes_lent, SameLent}
+use Rattle.second.specs.Lanes.{lanes_lent}
+use Rattle.second.specs.Same.{SameLent}
 use Rattle.input.proofs.Settling.{enough}
 use Rattle.input.proofs.Reading.{Stands}
 use Rattle.input.proofs.read_input.Given as goal

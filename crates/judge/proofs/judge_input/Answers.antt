@@ -3,8 +3,7 @@ use mathlib.Core.Path.{◌∙◌, ap}
 use Rattle.base.specs.Words.{with_front}
 use Rattle.second.specs.Lanes.{Lanes}
 use Rattle.trip.specs.declared.Rooms.{Rooms}
-use Rattle.trip.specs.Lent.{rooms_in}
-use Rattle.trip.specs.Inside.{lent_in}
+use Rattle.trip.specs.Lent.{rooms_in, lent_in}
 use Rattle.printed.specs.Printed.{printed_text}
 use Rattle.judge.proofs.Whole.{judged_as_one}
 use Rattle.judge.proofs.judge_input.Goals as goal

@@ -1,6 +1,6 @@
 -- `kept::keep` meets its contract: after i seconds each lane begins with the values of those kept, and the rest of it is as it was.
 -- Assumes nothing.
-use Rattle.second.specs.Inside.{lanes_in}
+use Rattle.second.specs.Lanes.{lanes_in}
 use Rattle.kept.proofs.Keeping.{Front}
 use Rattle.kept.proofs.keep.Given as goal
 

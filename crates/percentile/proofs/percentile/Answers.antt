@@ -15,5 +15,5 @@ returns-in_err-check-clause-ranks_after c =
 
 pub returns : goal.returns
 returns c =
-    let is = ranked_given c.args.values.now c.args.ranks.now c.copy_from_slice.new.self c.rank_first.new.lane c.rank_first.result c.in_ok-check.ensures c.copy_from_slice.ensures.after (c.rank_first.ensures.value, c.rank_first.ensures.lane_after) in
+    let is = ranked_given c.args.values.now c.args.ranks.now c.copy.new.lane c.rank_first.new.lane c.rank_first.result c.in_ok-check.ensures c.copy.ensures (c.rank_first.ensures.value, c.rank_first.ensures.lane_after) in
     record { value = is.0; ranks_after = is.1 }

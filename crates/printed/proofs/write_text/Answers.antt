@@ -3,11 +3,9 @@ use mathlib.Core.Path.{◌≡◌, sym, ◌∙◌, ap}
 use native.Mathlib.Omega.{arith}
 use Rattle.base.specs.Refusal.{accepted}
 use Rattle.stream.specs.declared.ReadAnswer.{ReadAnswer}
-use Rattle.second.specs.Lanes.{Lanes}
-use Rattle.second.specs.Inside.{lanes_in}
+use Rattle.second.specs.Lanes.{Lanes, lanes_in}
 use Rattle.trip.specs.Trip.{answer_of}
-use Rattle.trip.specs.Lent.{Lent, rooms_in, lent_left}
-use Rattle.trip.specs.Inside.{lent_in}
+use Rattle.trip.specs.Lent.{Lent, rooms_in, lent_left, lent_in}
 use Rattle.report.proofs.Lengths.{refusal_longest}
 use Rattle.printed.specs.Printed.{trip_text}
 use Rattle.printed.proofs.Texts.{refused_text, refused_lent, read_text, read_lent}

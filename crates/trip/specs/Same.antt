@@ -1,11 +1,6 @@
--- How the code holds the lent lanes.
+-- The lanes that a whole trip is lent: which ones they are.
 use Rattle.std.specs.Prelude.{◌≡◌}
 use Rattle.trip.specs.declared.Workspace.{Workspace}
-use Rattle.trip.specs.Lent.{Lent, lent_of}
-
--- the lanes that the code holds together, as they stand
-abbrev pub lent_in : Workspace → Lent
-lent_in work = lent_of work.kept_speeds.now work.kept_co2.now work.ends.now work.ranks.now
 
 -- lanes that are lent are still the same ones, whatever was written into them
 pub record SameWork (before after : Workspace) : Type 0 where
