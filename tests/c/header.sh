@@ -1,6 +1,7 @@
 #!/bin/sh
 # tests/c/header.sh: the header from C. Its bytes, its numbers and its layout against the library, the
-# contracts of what is exported, and the stack of every call. The last line is `N passed, M failed`.
+# contracts of what is exported, what the library needs from outside, and the stack of every call. The
+# last line is `N passed, M failed`.
 cd "$(dirname "$0")/../.." || exit 1
 . tools/compilers
 passed=0 failed=0
@@ -49,6 +50,11 @@ contracts capi >"$room/capi"
 contracts capi_c >"$room/capi_c"
 grep -q '^    ensures ' "$room/capi" && cmp "$room/capi" "$room/capi_c"
 holds "what is exported has the contracts that the theorems speak of" $?
+
+# What the library wants from outside is what the header says of a dynamic linker.
+needed=$(echo $("$("$cc" -print-prog-name=nm)" -u target/pierbracken/libpierbracken.a | sed -n 's/^ *U //p' | sort -u))
+[ "$needed" = "memcpy memset" ]
+holds "the library needs memcpy and memset alone; it needs: $needed" $?
 
 LC_ALL=C grep -n '[^ -~]' include/pierbracken.h
 holds "the header is plain ASCII" $(($? != 1))
